@@ -1,0 +1,3 @@
+pub mod MonthLaws
+pub mod YearLaws
+pub mod TableLaws

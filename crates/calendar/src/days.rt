@@ -1,0 +1,72 @@
+// The number of a day, within its year and over all years, and its weekday.
+use super::Date;
+use super::months::is_leap;
+ghost use mathlib.Core.Path.{_≡_};
+ghost use Prim.Native.Nat.{_≤_, _<_, _*_, _^_};
+ghost use Rattle.calendar.specs.Calendar.{
+  yearLength,
+  daysBefore,
+  daysBeforeYear,
+  dayOfYear,
+  dayNumber,
+  weekdayOf,
+};
+
+pub fn year_length(leap: bool) -> u16
+    ensures { λ r. ⌜ r ≡ yearLength leap ⌝ }
+{
+    if leap {
+        return 366;
+    }
+    365
+}
+
+// From March on the months' lengths repeat so evenly that a formula counts them; past December it is the whole year.
+fn days_before(leap: bool, month: u8) -> u16
+    ensures { λ r. ⌜ r ≡ daysBefore leap month ⌝ }
+    ensures { λ r. ⌜ r ≤ 366 ⌝ }
+{
+    if month < 2 {
+        return 0;
+    }
+    if month == 2 {
+        return 31;
+    }
+    if 12 < month {
+        return year_length(leap);
+    }
+    let common = (153 * (month as u16) - 162) / 5;
+    if leap {
+        return common + 1;
+    }
+    common
+}
+
+// A leap day every fourth year, but for the hundreds that are no four hundreds.
+fn days_before_year(year: u16) -> u32
+    ensures { λ r. ⌜ r ≡ daysBeforeYear year ⌝ }
+    ensures { λ r. ⌜ r ≤ 366 * year ⌝ }
+{
+    let y = year as u32;
+    365 * y + (y + 3) / 4 + (y + 399) / 400 - (y + 99) / 100
+}
+
+pub fn day_of_year(t: Date) -> u16
+    ensures { λ r. ⌜ r ≡ dayOfYear t ⌝ }
+    ensures { λ r. ⌜ r ≤ 621 ⌝ }
+{
+    days_before(is_leap(t.year), t.month) + (t.day as u16)
+}
+
+pub fn day_number(t: Date) -> u32
+    ensures { λ r. ⌜ r ≡ dayNumber t ⌝ }
+    ensures { λ r. ⌜ r < 2 ^ 25 ⌝ }
+{
+    days_before_year(t.year) + (day_of_year(t) as u32)
+}
+
+pub fn weekday(t: Date) -> u8
+    ensures { λ r. ⌜ r ≡ weekdayOf t ⌝ }
+{
+    ((day_number(t) + 4) % 7 + 1) as u8
+}

@@ -1,0 +1,1 @@
+// Laws that every crate's proofs share; there is no code here.
