@@ -1,3 +1,6 @@
 pub mod MonthLaws
 pub mod YearLaws
+pub mod DateLaws
+pub mod WeekdayLaws
 pub mod TableLaws
+pub mod Unique

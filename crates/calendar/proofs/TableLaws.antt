@@ -7,10 +7,13 @@ use native.Mathlib.Omega.{arith}
 use lib.Dec.{T, eqb, eqb→eq, leb, leb→le, le→leb, ltb, ltb→lt}
 use lib.ListN.{getD}
 use borrow.Author.Tests.{leb-true, le-leb, lt-ltb, le-ltb}
-use Rattle.laws.proofs.Bools.{both, where-so, then}
+use Rattle.laws.proofs.Bools.{both, holds, where-so, then}
 use Rattle.laws.proofs.Tested.{below, at, and-left, and-right}
+use Rattle.calendar.specs.declared.Date.{Date}
 use Rattle.calendar.specs.declared.MonthDay.{MonthDay}
-use Rattle.calendar.specs.Calendar.{daysIn, daysBefore, yearLength, monthUpTo, inYear, monthDay}
+use Rattle.calendar.specs.Calendar.{leapYear, daysIn, daysBefore, yearLength, dayOfYear, monthUpTo, inYear, monthDay}
+use Rattle.calendar.proofs.MonthLaws.{month-ends, year-least}
+use Rattle.calendar.proofs.DateLaws.{Real, number-is, same-number}
 
 unfoldable pub same : MonthDay → MonthDay → Bool
 same a b = eqb (a .month) (b .month) && eqb (a .day) (b .day)
@@ -84,3 +87,57 @@ no-such-day l k e = rw e
 pub within : (l : Bool) (k : ℕ) → inYear l k ≡ true → (1 ≤ k) × (k ≤ yearLength l)
 unfolding inYear
 within l k e = let p = both (leb 1 k) (leb k (yearLength l)) e in (leb-true 1 k (p .0), leb-true k (yearLength l) (p .1))
+
+-- ---- month and day, and the day of the year again
+
+back-test : Bool → ℕ → Bool
+back-test l k =
+    let p = monthDay l k in
+    where-so (inYear l k) (leb 1 (p .day) && (leb (p .day) (daysIn l (p .month)) && eqb (daysBefore l (p .month) + p .day) k))
+
+all-back : (l : Bool) → T (below (back-test l) 367)
+unfolding back-test monthDay inYear yearLength monthUpTo daysBefore daysIn
+all-back true = tt
+all-back false = tt
+
+pub record OnDay (l : Bool) (k : ℕ) (p : MonthDay) : Type 0 where
+  pub one : 1 ≤ p .day
+  pub last : p .day ≤ daysIn l (p .month)
+  pub is : daysBefore l (p .month) + p .day ≡ k
+
+-- a day that the year has is on the month and day that it is given as
+pub on-day : (l : Bool) (k : ℕ) → inYear l k ≡ true → OnDay l k (monthDay l k)
+unfolding back-test
+on-day l k e =
+    let p = monthDay l k in
+    let a = leb 1 (p .day) in
+    let b = leb (p .day) (daysIn l (p .month)) in
+    let c = eqb (daysBefore l (p .month) + p .day) k in
+    let y = year-least l in
+    let h = within l k e in
+    let t = then (inYear l k) (a && (b && c)) (at (back-test l) 367 (all-back l) k (omega arith)) (holds (inYear l k) e) in
+    record {
+      one = leb→le _ _ (and-left a (b && c) t);
+      last = leb→le _ _ (and-left b c (and-right a (b && c) t));
+      is = eqb→eq _ _ (and-right b c (and-right a (b && c) t));
+    }
+
+pub year-has : (t : Date) → Real t → inYear (leapYear (t .year)) (dayOfYear t) ≡ true
+unfolding inYear dayOfYear
+year-has t p =
+    let l = leapYear (t .year) in
+    let e = month-ends l (t .month) (t .day) (p .one) (p .last) in
+    rw (le-leb 1 (daysBefore l (t .month) + t .day) (omega (arith, p .one)), le-leb (daysBefore l (t .month) + t .day) (yearLength l) e)
+
+pub of-year : (t : Date) → dayOfYear t ≡ daysBefore (leapYear (t .year)) (t .month) + t .day
+unfolding dayOfYear
+of-year t = refl
+
+pub month-day-of : (t : Date) → Real t → monthDay (leapYear (t .year)) (dayOfYear t) ≡ record { month = t .month; day = t .day }
+month-day-of t p = let e = same-number u t (record { one = o .one; last = o .last }) p (omega (arith, o .is, number-is u, number-is t, of-year t)) in λ i. record { month = e i .month; day = e i .day }
+  where
+    o : OnDay (leapYear (t .year)) (dayOfYear t) (monthDay (leapYear (t .year)) (dayOfYear t))
+    o = on-day (leapYear (t .year)) (dayOfYear t) (year-has t p)
+
+    u : Date
+    u = record { year = t .year; month = monthDay (leapYear (t .year)) (dayOfYear t) .month; day = monthDay (leapYear (t .year)) (dayOfYear t) .day }

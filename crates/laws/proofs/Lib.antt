@@ -1,2 +1,4 @@
 pub mod Bools
+pub mod Coincide
+pub mod Signed
 pub mod Tested
