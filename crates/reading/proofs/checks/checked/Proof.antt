@@ -1,0 +1,39 @@
+-- `reading::checks::checked` meets its contract. Assumes nothing.
+use borrow.Author.Needs.{needs}
+use Rattle.reading.specs.Checks.{checkedOf}
+use Rattle.reading.proofs.checks.checked.Statement.{statement}
+use Rattle.reading.proofs.checks.checked.Tie as tie
+
+time-bad-requires : tie.Need-time-bad-requires
+time-bad-requires c κs = search needs
+
+date-bad-requires : tie.Need-date-bad-requires
+date-bad-requires c κs = search needs
+
+quality-bad-requires : tie.Need-quality-bad-requires
+quality-bad-requires c κs = search needs
+
+is-good-requires : tie.Need-is-good-requires
+is-good-requires c κs = search needs
+
+leap-second-bad-requires : tie.Need-leap-second-bad-requires
+leap-second-bad-requires c κs = search needs
+
+lowest-requires : tie.Need-lowest-requires
+lowest-requires c κs = search needs
+
+returns : tie.Need-returns
+unfolding checkedOf
+returns c = rw (c .lowest .ensures, c .before .leap-second-bad .ensures, c .before .before .is-good .ensures, c .before .before .before .quality-bad .ensures, c .before .before .before .before .date-bad .ensures, c .before .before .before .before .before .time-bad .ensures)
+
+pub checked-spec : {M : Type 1} → statement M
+checked-spec =
+    tie.close
+    (tie.spec
+    time-bad-requires
+    date-bad-requires
+    quality-bad-requires
+    is-good-requires
+    leap-second-bad-requires
+    lowest-requires
+    returns)

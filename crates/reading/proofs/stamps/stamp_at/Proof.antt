@@ -1,0 +1,42 @@
+-- `reading::stamps::stamp_at` meets its contract. Assumes nothing.
+use borrow.Author.Needs.{needs}
+use mathlib.Core.Path.{_≡_}
+use mathlib.Core.Bool.{true, false}
+use Prim.Native.Nat.{ℕ}
+use Rattle.reading.specs.declared.Utc.{Utc}
+use Rattle.reading.specs.declared.Refusal.{Refusal}
+use Rattle.reading.specs.declared.Stamp.the-variants.{At, Refused}
+use Rattle.reading.specs.declared.Fault.the-variants.{OutsideStamps}
+use Rattle.reading.specs.Faults.{number}
+use Rattle.reading.specs.Stamps.{hasStamp, stampNumber, stampAt}
+use Rattle.reading.proofs.stamps.stamp_at.Statement.{statement}
+use Rattle.reading.proofs.stamps.stamp_at.Tie as tie
+
+module _ (u : Utc) (s : ℕ) where
+  stamped : (n : ℕ) → n ≡ stampNumber u s → hasStamp (u .date .year) ≡ true → At n ≡ stampAt u s
+  unfolding stampAt
+  stamped n e h = rw (h, e)
+
+  outside : (r : Refusal) → r ≡ number OutsideStamps → hasStamp (u .date .year) ≡ false → Refused r ≡ stampAt u s
+  unfolding stampAt
+  outside r e h = rw (h, e)
+
+has-stamp-requires : tie.Need-has-stamp-requires
+has-stamp-requires c κs = search needs
+
+stamp-number-requires : tie.Need-stamp-number-requires
+stamp-number-requires c κs = search needs
+
+returns : tie.Need-returns
+returns c = stamped _ _ _ (cc) (cc)
+
+refusal-of-requires : tie.Need-refusal-of-requires
+refusal-of-requires c κs = search needs
+
+returns-2 : tie.Need-returns-2
+returns-2 c = outside _ _ _ (cc) (cc)
+
+pub stamp-at-spec : {M : Type 1} → statement M
+stamp-at-spec =
+    tie.close
+    (tie.spec has-stamp-requires stamp-number-requires returns refusal-of-requires returns-2)

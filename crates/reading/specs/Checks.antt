@@ -1,0 +1,42 @@
+-- The checks of a reading that every writer and stamping share, in the order of their codes.
+use mathlib.Core.Bool.{Bool, not, _&&_, _||_}
+use Prim.Native.Nat.{ℕ}
+use lib.Dec.{ltb}
+use Rattle.calendar.specs.Calendar.{isDate}
+use Rattle.reading.specs.declared.Reading.{Reading}
+use Rattle.reading.specs.declared.Fault.the-variants.{Time, Date, QualityOrHead, Offset, LeapSecond}
+use Rattle.reading.specs.declared.Verdict.{Verdict}
+use Rattle.reading.specs.declared.Verdict.the-variants.{Good}
+use Rattle.reading.specs.Faults.{first}
+use Rattle.reading.specs.Years.{inHundred}
+use Rattle.reading.specs.Offset.{offsetGood}
+use Rattle.reading.specs.Universal.{dateOf, utcOf}
+use Rattle.reading.specs.Leap.{sixtyBad}
+
+abbrev pub hourBad : ℕ → Bool
+hourBad h = ltb 23 h
+
+abbrev pub minuteBad : ℕ → Bool
+minuteBad m = ltb 59 m
+
+abbrev pub secondBad : ℕ → Bool
+secondBad s = ltb 60 s
+
+unfoldable pub timeBad : Reading → Bool
+timeBad r = hourBad (r .hour) || (minuteBad (r .minute) || secondBad (r .second))
+
+unfoldable pub dateBad : ℕ → Reading → Bool
+dateBad base r = not (inHundred base (r .year) && isDate (dateOf r))
+
+abbrev pub qualityBad : ℕ → Bool
+qualityBad q = ltb 15 q
+
+-- the fault of the lowest code
+abbrev pub lowestOf : Bool → Bool → Bool → Bool → Bool → Verdict
+lowestOf time date quality offset sixty =
+    first time (Time 0) (first date (Date 0) (first quality (QualityOrHead 0) (first offset (Offset 0) (first sixty (LeapSecond 0) Good))))
+
+-- the first fault of a reading whose year is one of the hundred from a base year on
+unfoldable pub checkedOf : ℕ → Reading → Verdict
+checkedOf base r =
+    lowestOf (timeBad r) (dateBad base r) (qualityBad (r .quality)) (not (offsetGood (r .offset .0))) (sixtyBad (utcOf r) (r .second))

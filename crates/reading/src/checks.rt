@@ -1,0 +1,100 @@
+// The checks of a reading that every writer and stamping share, in the order of their codes.
+use super::Fault;
+use super::Reading;
+use super::Verdict;
+use super::leap::leap_minute;
+use super::universal::utc_of;
+use super::years::in_hundred;
+use calendar::Date;
+use calendar::months::is_date;
+ghost use mathlib.Core.Path.{_≡_};
+ghost use mathlib.Core.Bool.{not};
+ghost use Rattle.reading.specs.Years.{base};
+ghost use Rattle.reading.specs.Universal.{utcOf};
+ghost use Rattle.reading.specs.Leap.{sixtyBad};
+ghost use Rattle.reading.specs.Checks.{hourBad, minuteBad, secondBad, timeBad, dateBad, qualityBad, checkedOf, lowestOf};
+
+pub fn hour_bad(hour: u8) -> bool
+    ensures { λ r. ⌜ r ≡ hourBad hour ⌝ }
+{
+    23 < hour
+}
+
+pub fn minute_bad(minute: u8) -> bool
+    ensures { λ r. ⌜ r ≡ minuteBad minute ⌝ }
+{
+    59 < minute
+}
+
+pub fn second_bad(second: u8) -> bool
+    ensures { λ r. ⌜ r ≡ secondBad second ⌝ }
+{
+    60 < second
+}
+
+fn time_bad(r: Reading) -> bool
+    ensures { λ b. ⌜ b ≡ timeBad r ⌝ }
+{
+    hour_bad(r.hour) | (minute_bad(r.minute) | second_bad(r.second))
+}
+
+fn date_bad(r: Reading) -> bool
+    ensures { λ b. ⌜ b ≡ dateBad base r ⌝ }
+{
+    let date = Date {
+        year: r.year,
+        month: r.month,
+        day: r.day,
+    };
+    !(in_hundred(r.year) & is_date(date))
+}
+
+pub fn quality_bad(quality: u8) -> bool
+    ensures { λ r. ⌜ r ≡ qualityBad quality ⌝ }
+{
+    15 < quality
+}
+
+// UTC is worked out only where the second is 60.
+pub fn leap_second_bad(r: Reading) -> bool
+    ensures { λ b. ⌜ b ≡ sixtyBad (utcOf r) (r .second) ⌝ }
+{
+    if r.second != 60 {
+        return false;
+    }
+    !leap_minute(utc_of(r))
+}
+
+fn lowest(time: bool, date: bool, quality: bool, offset: bool, sixty: bool) -> Verdict
+    ensures { λ v. ⌜ v ≡ lowestOf time date quality offset sixty ⌝ }
+{
+    if time {
+        return Verdict::Bad(Fault::Time(0));
+    }
+    if date {
+        return Verdict::Bad(Fault::Date(0));
+    }
+    if quality {
+        return Verdict::Bad(Fault::QualityOrHead(0));
+    }
+    if offset {
+        return Verdict::Bad(Fault::Offset(0));
+    }
+    if sixty {
+        return Verdict::Bad(Fault::LeapSecond(0));
+    }
+    Verdict::Good
+}
+
+pub fn checked(r: Reading) -> Verdict
+    ensures { λ v. ⌜ v ≡ checkedOf base r ⌝ }
+{
+    let offset = r.offset;
+    lowest(
+        time_bad(r),
+        date_bad(r),
+        quality_bad(r.quality),
+        !offset.is_good(),
+        leap_second_bad(r),
+    )
+}

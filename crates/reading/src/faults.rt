@@ -1,0 +1,60 @@
+// The number and place of a fault.
+use super::Fault;
+use super::Refusal;
+ghost use mathlib.Core.Path.{_≡_};
+ghost use Rattle.reading.specs.Faults.{codeOf, placeOf, number};
+
+fn code_of(fault: Fault) -> u8
+    ensures { λ r. ⌜ r ≡ codeOf fault ⌝ }
+{
+    match fault {
+        Fault::Length => 1,
+        Fault::Byte(_) => 2,
+        Fault::Digit(_) => 3,
+        Fault::Parity(_) => 4,
+        Fault::Time(_) => 5,
+        Fault::Date(_) => 5,
+        Fault::QualityOrHead(_) => 5,
+        Fault::Weekday(_) => 6,
+        Fault::SecondOfDay(_) => 7,
+        Fault::Offset(_) => 8,
+        Fault::LeapSecond(_) => 9,
+        Fault::Deletion(_) => 10,
+        Fault::NotCarried => 11,
+        Fault::OutsideStamps => 12,
+        Fault::CutShort => 13,
+        Fault::UnknownKind => 14,
+    }
+}
+
+fn place_of(fault: Fault) -> usize
+    ensures { λ r. ⌜ r ≡ placeOf fault ⌝ }
+{
+    match fault {
+        Fault::Length => 0,
+        Fault::Byte(place) => place,
+        Fault::Digit(_) => 0,
+        Fault::Parity(_) => 0,
+        Fault::Time(_) => 0,
+        Fault::Date(_) => 0,
+        Fault::QualityOrHead(_) => 0,
+        Fault::Weekday(_) => 0,
+        Fault::SecondOfDay(_) => 0,
+        Fault::Offset(_) => 0,
+        Fault::LeapSecond(_) => 0,
+        Fault::Deletion(_) => 0,
+        Fault::NotCarried => 0,
+        Fault::OutsideStamps => 0,
+        Fault::CutShort => 0,
+        Fault::UnknownKind => 0,
+    }
+}
+
+pub fn refusal_of(fault: Fault) -> Refusal
+    ensures { λ r. ⌜ r ≡ number fault ⌝ }
+{
+    Refusal {
+        code: code_of(fault),
+        place: place_of(fault),
+    }
+}
