@@ -1,6 +1,6 @@
 -- Truth values: what a conjunction, a disjunction and a test under a condition tell.
 use mathlib.Core.Path.{_≡_, refl, subst, sym, _∙_}
-use mathlib.Core.Bool.{Bool, true, false, not, _&&_, _||_}
+use mathlib.Core.Bool.{Bool, true, false, not, Bool·beq, _&&_, _||_}
 use mathlib.Core.Logic.{_⊎_, inl, inr}
 use lib.Dec.{T}
 use borrow.Author.Tests.{not-true, not-false}
@@ -49,3 +49,9 @@ failed p q = sym p ∙ not-true _ q
 
 pub passed : {b t : Bool} → b ≡ t → not b ≡ false → t ≡ true
 passed p q = sym p ∙ not-false _ q
+
+pub same-bool : (a b : Bool) → T (Bool·beq a b) → a ≡ b
+same-bool true true t = refl
+same-bool false false t = refl
+same-bool true false t = absurd t
+same-bool false true t = absurd t

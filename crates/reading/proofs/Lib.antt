@@ -1,1 +1,9 @@
 pub mod Bits
+pub mod YearLaws
+pub mod OffsetLaws
+pub mod LeapLaws
+pub mod CheckLaws
+pub mod UtcLaws
+pub mod StampLaws
+pub mod StampOrder
+pub mod Unique

@@ -40,7 +40,7 @@ impl LocalMinusUtc {
 
     // The other sense.
     pub fn added(self) -> AddedToLocal
-        ensures { λ r. ⌜ r .0 ≡ opposite (self .0) ⌝ }
+        ensures { λ r. ⌜ r ≡ record { 0 = opposite (self .0) } ⌝ }
     {
         let x = self.0;
         AddedToLocal(-(x as i16))
@@ -50,7 +50,7 @@ impl LocalMinusUtc {
 impl AddedToLocal {
     // The other sense back again; an amount that no offset is the opposite of gives the nearest.
     pub fn local(self) -> LocalMinusUtc
-        ensures { λ r. ⌜ r .0 ≡ localOf (self .0) ⌝ }
+        ensures { λ r. ⌜ r ≡ record { 0 = localOf (self .0) } ⌝ }
     {
         let x = self.0;
         if x < -127 {

@@ -32,13 +32,15 @@ returns : tie.Need-returns
 unfolding localOf
 returns c =
     let z = c .before .before .args .self .0 in
-    same-is _ _ (then (low z) (same (pos 127) (localOf z)) (each 32768 (λ z. where-so (low z) (same (pos 127) (localOf z))) tt z (c .before .struct-told .given .0 .1)) (holds (low z) (c .if1 .taken)))
+    let e = same-is _ _ (then (low z) (same (pos 127) (localOf z)) (each 32768 (λ z. where-so (low z) (same (pos 127) (localOf z))) tt z (c .before .struct-told .given .0 .1)) (holds (low z) (c .if1 .taken))) in
+    λ i. record { 0 = e i }
 
 returns-2 : tie.Need-returns-2
 unfolding localOf
 returns-2 c =
     let z = c .before .before .before .args .self .0 in
-    same-is _ _ (then (high z) (same (negsuc 127) (localOf z)) (each 32768 (λ z. where-so (high z) (same (negsuc 127) (localOf z))) tt z (c .before .before .struct-told .given .0 .1)) (holds (high z) (c .if2 .taken)))
+    let e = same-is _ _ (then (high z) (same (negsuc 127) (localOf z)) (each 32768 (λ z. where-so (high z) (same (negsuc 127) (localOf z))) tt z (c .before .before .struct-told .given .0 .1)) (holds (high z) (c .if2 .taken))) in
+    λ i. record { 0 = e i }
 
 sub-t4 : tie.Need-sub-t4
 sub-t4 c = record { sfits = ltb→lt _ _ (between (λ z. ltb (mag (negated z)) 32768) tt c) }
@@ -48,7 +50,7 @@ cast-t5 c = record { sfits = ltb→lt _ _ (between (λ z. ltb (mag (back16 (nega
 
 returns-3 : tie.Need-returns-3
 unfolding localOf
-returns-3 c = same-is _ _ (between (λ z. same (back (back16 (negated z))) (localOf z)) tt c)
+returns-3 c = let e = same-is _ _ (between (λ z. same (back (back16 (negated z))) (localOf z)) tt c) in λ i. record { 0 = e i }
 
 pub local-spec : {M : Type 1} → statement M
 local-spec = tie.close (tie.spec returns returns-2 sub-t4 cast-t5 returns-3)

@@ -19,7 +19,7 @@ sub-t4 : tie.Need-sub-t4
 sub-t4 c = record { sfits = ltb→lt _ _ (of-each (λ z. ltb (mag (negated z)) 32768) tt c) }
 
 returns : tie.Need-returns
-returns c = same-is _ _ (of-each (λ z. same (back16 (negated z)) (opposite z)) tt c)
+returns c = let e = same-is _ _ (of-each (λ z. same (back16 (negated z)) (opposite z)) tt c) in λ i. record { 0 = e i }
 
 pub added-spec : {M : Type 1} → statement M
 added-spec = tie.close (tie.spec cast-t3 sub-t4 returns)

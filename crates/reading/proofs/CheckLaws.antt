@@ -1,0 +1,86 @@
+-- What a good reading is: the facts behind each check, one after the other.
+use mathlib.Core.Bool.{Bool, true, false, not, _&&_, _||_}
+use mathlib.Core.Path.{_≡_, refl, sym, _∙_}
+use Prim.Native.Nat.{ℕ, _≤_, _<_}
+use native.Mathlib.Omega.{arith}
+use lib.Dec.{ltb}
+use borrow.Author.Tests.{not-false, ltb-false, le-ltb}
+use Rattle.calendar.specs.Calendar.{isDate}
+use Rattle.laws.proofs.Bools.{both, neither}
+use Rattle.reading.specs.declared.Reading.{Reading}
+use Rattle.reading.specs.declared.Fault.{Fault}
+use Rattle.reading.specs.declared.Verdict.{Verdict}
+use Rattle.reading.specs.declared.Verdict.the-variants.{Good, Bad}
+use Rattle.reading.specs.Faults.{first}
+use Rattle.reading.specs.Years.{inHundred}
+use Rattle.reading.specs.Offset.{offsetGood}
+use Rattle.reading.specs.Universal.{dateOf, utcOf}
+use Rattle.reading.specs.Leap.{sixtyBad}
+use Rattle.reading.specs.Checks.{hourBad, minuteBad, secondBad, timeBad, dateBad, qualityBad, lowestOf, checkedOf}
+
+pub clash : {A : Type 0} → _≡_ {A = ℕ} 0 1 → A
+clash z = absurd (no z)
+  where
+    no : _≡_ {A = ℕ} 0 1 → ⊥
+    no z = omega arith
+
+-- a verdict is good where its condition fails and the rest is good
+pub first-good : (b : Bool) (x : Fault) (v : Verdict) → first b x v ≡ Good → (b ≡ false) × (v ≡ Good)
+first-good false x v e = (refl, e)
+first-good true x v e = let z : _≡_ {A = ℕ} 0 1 = cc in clash z
+
+pub record Checked (base : ℕ) (r : Reading) : Type 0 where
+  pub hour : r .hour ≤ 23
+  pub minute : r .minute ≤ 59
+  pub second : r .second ≤ 60
+  pub year : inHundred base (r .year) ≡ true
+  pub date : isDate (dateOf r) ≡ true
+  pub quality : r .quality ≤ 15
+  pub offset : offsetGood (r .offset .0) ≡ true
+  pub leap : sixtyBad (utcOf r) (r .second) ≡ false
+
+time-good : (r : Reading) → timeBad r ≡ false → (r .hour ≤ 23) × (r .minute ≤ 59) × (r .second ≤ 60)
+unfolding timeBad
+time-good r e =
+    let p = neither (hourBad (r .hour)) (minuteBad (r .minute) || secondBad (r .second)) e in
+    let q = neither (minuteBad (r .minute)) (secondBad (r .second)) (p .1) in
+    (ltb-false 23 (r .hour) (p .0), ltb-false 59 (r .minute) (q .0), ltb-false 60 (r .second) (q .1))
+
+date-good : (base : ℕ) (r : Reading) → dateBad base r ≡ false → (inHundred base (r .year) ≡ true) × (isDate (dateOf r) ≡ true)
+unfolding dateBad
+date-good base r e = both (inHundred base (r .year)) (isDate (dateOf r)) (not-false (inHundred base (r .year) && isDate (dateOf r)) e)
+
+pub checked-is : (base : ℕ) (r : Reading) → checkedOf base r ≡ Good → Checked base r
+unfolding checkedOf
+checked-is base r e =
+    let a = first-good (timeBad r) _ _ e in
+    let b = first-good (dateBad base r) _ _ (a .1) in
+    let c = first-good (qualityBad (r .quality)) _ _ (b .1) in
+    let d = first-good (not (offsetGood (r .offset .0))) _ _ (c .1) in
+    let f = first-good (sixtyBad (utcOf r) (r .second)) _ _ (d .1) in
+    let t = time-good r (a .0) in
+    let u = date-good base r (b .0) in
+    record {
+      hour = t .0;
+      minute = t .1;
+      second = t .2;
+      year = u .0;
+      date = u .1;
+      quality = ltb-false 15 (r .quality) (c .0);
+      offset = not-false (offsetGood (r .offset .0)) (d .0);
+      leap = f .0;
+    }
+
+pub is-checked : (base : ℕ) (r : Reading) → Checked base r → checkedOf base r ≡ Good
+unfolding checkedOf timeBad dateBad
+is-checked base r p =
+    rw (
+      le-ltb 23 (r .hour) (p .hour),
+      le-ltb 59 (r .minute) (p .minute),
+      le-ltb 60 (r .second) (p .second),
+      p .year,
+      p .date,
+      le-ltb 15 (r .quality) (p .quality),
+      p .offset,
+      p .leap,
+    )
