@@ -12,6 +12,8 @@ use Rattle.reading.proofs.AddedToLocal.local.Kinds as local-kinds
 use Rattle.reading.proofs.AddedToLocal.local.Reads as local-reads
 use Rattle.reading.proofs.faults.refusal_of.Kinds as refusal-of-kinds
 use Rattle.reading.proofs.faults.refusal_of.Reads as refusal-of-reads
+use Rattle.reading.proofs.faults.written.Kinds as written-kinds
+use Rattle.reading.proofs.faults.written.Reads as written-reads
 use Rattle.reading.proofs.years.in_hundred.Kinds as in-hundred-kinds
 use Rattle.reading.proofs.years.in_hundred.Reads as in-hundred-reads
 use Rattle.reading.proofs.years.year_of.Kinds as year-of-kinds
@@ -110,3 +112,6 @@ checked-one κs a x y e f p q = cc
 
 pub stamp-of-one : Coincide 0 stamp-of-kinds.ps stamp-of-kinds.r stamp-of-reads.Post
 stamp-of-one κs a x y e f p q = cc
+
+pub written-one : Coincide 0 written-kinds.ps written-kinds.r written-reads.Post
+written-one κs a x y e f p q = cc

@@ -1,4 +1,5 @@
 pub mod Faults
+pub mod Writing
 pub mod Offset
 pub mod Years
 pub mod Universal

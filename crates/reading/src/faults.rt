@@ -1,8 +1,11 @@
-// The number and place of a fault.
+// The number and place of a fault, and what a writer answers.
 use super::Fault;
 use super::Refusal;
+use super::Verdict;
+use super::Written;
 ghost use mathlib.Core.Path.{_≡_};
 ghost use Rattle.reading.specs.Faults.{codeOf, placeOf, number};
+ghost use Rattle.reading.specs.Writing.{writtenOf};
 
 fn code_of(fault: Fault) -> u8
     ensures { λ r. ⌜ r ≡ codeOf fault ⌝ }
@@ -56,5 +59,15 @@ pub fn refusal_of(fault: Fault) -> Refusal
     Refusal {
         code: code_of(fault),
         place: place_of(fault),
+    }
+}
+
+// The answer of a writer that found this verdict on what it was given, and whose format has this length.
+pub fn written(verdict: Verdict, length: usize) -> Written
+    ensures { λ r. ⌜ r ≡ writtenOf verdict length ⌝ }
+{
+    match verdict {
+        Verdict::Good => Written::Length(length),
+        Verdict::Bad(fault) => Written::No(refusal_of(fault)),
     }
 }

@@ -73,3 +73,9 @@ pub enum Stamp {
     At(u64),
     Refused(Refusal),
 }
+
+// What a writer answers: how many bytes it wrote, or why it wrote none.
+pub enum Written {
+    Length(usize),
+    No(Refusal),
+}

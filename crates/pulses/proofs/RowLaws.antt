@@ -1,0 +1,109 @@
+-- The row that a table lays out of values: its length, its pulses, that every one of them is good, and the bytes it is laid in.
+use mathlib.Core.Path.{_≡_, refl, sym, ap, _∙_}
+use mathlib.Core.Bool.{true, false}
+use mathlib.Core.List.{List, [], _∷_, _++_, append-assoc}
+use Prim.Native.Nat.{ℕ, zero, suc, _+_, _<_, _≤_}
+use native.Mathlib.Nat.{not-suc-le-zero}
+use native.Mathlib.Numerals.{add-one}
+use native.Mathlib.Decide.{decLt}
+use native.Mathlib.Omega.{arith}
+use borrow.Author.Tests.{le-leb, lt-leb}
+use lib.ListN.{length, getD, take, drop, set, length-append, length-drop}
+use lib.Seq.{drop-cons, take-suc, set-at, length-take-le, ext-getD, take-at, take-length, drop-at}
+use Rattle.pulses.specs.Row.{groupOf, firstData, pulseOf, pulseFor, goodPulses, row, fitsIn, laid}
+use Rattle.pulses.proofs.EntryLaws.{pulse-allowed, pulse-for-same}
+
+pub length-row : (t v : List ℕ) → length (row t v) ≡ length t
+unfolding row
+length-row [] v = refl
+length-row (e ∷ t) v = ap suc (length-row t v)
+
+pub pulse-at : (t v : List ℕ) (i : ℕ) → i < length t → getD (row t v) i 0 ≡ pulseFor (getD t i 0) v
+unfolding row
+pulse-at [] v i h = absurd (not-suc-le-zero h)
+pulse-at (e ∷ t) v zero h = refl
+pulse-at (e ∷ t) v (suc i) h = pulse-at t v i (omega arith)
+
+-- every pulse of the row is good, whatever the values are
+pub row-good : (t v : List ℕ) → goodPulses t (row t v) ≡ length t
+unfolding goodPulses row pulseFor
+row-good [] v = refl
+row-good (e ∷ t) v = rw (pulse-allowed e (getD v (groupOf e) 0), row-good t v)
+
+-- the row goes by the values of the groups of data alone
+pub row-same : (t v w : List ℕ)
+    → ((i : ℕ) → i < length t → firstData ≤ groupOf (getD t i 0) → getD v (groupOf (getD t i 0)) 0 ≡ getD w (groupOf (getD t i 0)) 0)
+    → row t v ≡ row t w
+row-same t v w h =
+    ext-getD 0 (row t v) (row t w) (length-row t v ∙ sym (length-row t w))
+    (λ i l. let k : i < length t = rw length-row at l in
+    pulse-at t v i k ∙ pulse-for-same (getD t i 0) v w (h i k) ∙ sym (pulse-at t w i k))
+
+row-append : (t u v : List ℕ) → row (t ++ u) v ≡ row t v ++ row u v
+unfolding row
+row-append [] u v = refl
+row-append (e ∷ t) u v = rw (row-append t u v)
+
+-- ---- the row, laid pulse by pulse
+
+-- the bytes after i pulses are laid
+abbrev pub laidTo : List ℕ → List ℕ → List ℕ → ℕ → List ℕ
+laidTo t v out i = row (take i t) v ++ drop i out
+
+module _ (t v out : List ℕ) where
+  pub laid-none : out ≡ laidTo t v out 0
+  unfolding row
+  laid-none = refl
+
+  pub length-laid : (i : ℕ) → i ≤ length t → length t ≤ length out → length (laidTo t v out i) ≡ length out
+  length-laid i h k = simp (length-append, length-row, length-drop, length-take-le i t h) (omega arith)
+
+  -- one store more
+  laid-more : (i : ℕ) → i < length t → i < length out → set (laidTo t v out i) i (pulseFor (getD t i 0) v) ≡ laidTo t v out (i + 1)
+  unfolding row
+  laid-more i h k =
+      let l : length (row (take i t) v) ≡ i = length-row (take i t) v ∙ length-take-le i t (omega arith) in
+      rw (
+        add-one,
+        drop-cons out i 0 k,
+        set-at (row (take i t) v) (getD out i 0) (drop (suc i) out) (pulseFor (getD t i 0) v) i l,
+        take-suc t i 0 h,
+        row-append (take i t) (getD t i 0 ∷ []) v,
+      )
+      (sym (append-assoc (row (take i t) v) (pulseFor (getD t i 0) v ∷ []) (drop (suc i) out)))
+
+  -- with the pulse that is worked out from the entry's group
+  pub laid-store : (now : List ℕ) (i g x : ℕ) → now ≡ laidTo t v out i → i < length t → i < length out → g ≡ groupOf (getD t i 0)
+      → x ≡ pulseOf (getD t i 0) (getD v g 0) → set now i x ≡ laidTo t v out (i + 1)
+  unfolding pulseFor
+  laid-store now i g x e h k p q = rw (e, q, p) (laid-more i h k)
+
+  pub laid-all : (i : ℕ) → length t ≤ i → i ≤ length t → length t ≤ length out → laidTo t v out i ≡ laid t v out
+  unfolding laid fitsIn
+  laid-all i h k l =
+      let e : i ≡ length t = omega arith in
+      rw (e, take-length t, le-leb (length t) (length out) l)
+
+  -- ---- the bytes afterwards
+
+  pub too-few : length out < length t → (fitsIn t out ≡ false) × (laid t v out ≡ out)
+  unfolding fitsIn laid
+  too-few h = (lt-leb (length t) (length out) h, rw (lt-leb (length t) (length out) h))
+
+  pub enough : length t ≤ length out → (fitsIn t out ≡ true) × (laid t v out ≡ row t v ++ drop (length t) out)
+  unfolding fitsIn laid
+  enough h = (le-leb (length t) (length out) h, rw (le-leb (length t) (length out) h))
+
+  pub length-same : length (laid t v out) ≡ length out
+  length-same = elim (decLt (length out) (length t)) [
+    | yes h ↦ ap length (too-few h .1)
+    | no h ↦ ap length (enough (omega arith) .1) ∙ simp (length-append, length-row, length-drop) (omega arith)
+  ]
+
+  -- the row stands at the start
+  pub laid-front : length t ≤ length out → take (length t) (laid t v out) ≡ row t v
+  laid-front h = rw (enough h .1) (take-at (row t v) (drop (length t) out) (length t) (length-row t v))
+
+  -- and the other bytes are as they were
+  pub laid-rest : length t ≤ length out → drop (length t) (laid t v out) ≡ drop (length t) out
+  laid-rest h = rw (enough h .1) (drop-at (row t v) (drop (length t) out) (length t) (length-row t v))

@@ -1,0 +1,31 @@
+-- Any two answers that the contract of a public function allows coincide, and so do the bytes that it leaves.
+-- Each line speaks of the generated contract itself.
+use borrow.Fn.Kinds.{Dens, resT, endedOf}
+use contract.Lifetimes.{Lfts}
+use denote.Triple.Clauses.{AtExit}
+use denote.Ref.{now}
+use mathlib.Core.Path.{_≡_}
+use Rattle.laws.proofs.Coincide.{Coincide}
+use Rattle.pulses.proofs.good_pulses.Reads as good-pulses-reads
+use Rattle.pulses.proofs.good_pulses.Kinds as good-pulses-kinds
+use Rattle.pulses.proofs.sums.Reads as sums-reads
+use Rattle.pulses.proofs.sums.Kinds as sums-kinds
+use Rattle.pulses.proofs.lay.Reads as lay-reads
+use Rattle.pulses.proofs.lay.Kinds as lay-kinds
+use Rattle.pulses.proofs.ones.Reads as ones-reads
+use Rattle.pulses.proofs.ones.Kinds as ones-kinds
+
+pub good-pulses-one : Coincide 2 good-pulses-kinds.ps good-pulses-kinds.r good-pulses-reads.Post
+good-pulses-one κs a x y e f p q = cc
+
+pub sums-one : Coincide 2 sums-kinds.ps sums-kinds.r sums-reads.Post
+sums-one κs a x y e f p q = cc
+
+pub ones-one : Coincide 1 ones-kinds.ps ones-kinds.r ones-reads.Post
+ones-one κs a x y e f p q = cc
+
+-- the bytes that are lent hold the same afterwards too
+pub lay-one : (κs : Lfts 2) (a : Dens κs lay-kinds.ps) (x y : resT lay-kinds.r κs .Denot)
+    (e f : AtExit (endedOf 2 lay-kinds.ps lay-kinds.r) κs)
+    → lay-reads.Post κs a x e → lay-reads.Post κs a y f → (x ≡ y) × (now (e .0) ≡ now (f .0))
+lay-one κs a x y e f p q = (cc, cc)

@@ -1,0 +1,133 @@
+-- A row of pulses and the table that drives it: a number for each place, which is its group times 1048576 and its weight.
+-- Group 0 is a pulse that is always 0, group 1 a mark (a 2), group 2 a pulse that is always 1; the groups 3 to 31 hold data.
+use mathlib.Core.Bool.{Bool, true, cond, _&&_}
+use mathlib.Core.List.{List, [], _∷_, _++_}
+use Prim.Native.Nat.{ℕ, zero, suc, _+_, _-_, _*_, _/_, _%_, _^_}
+use lib.Dec.{leb, ltb, eqb}
+use lib.ListN.{length, getD, take, drop}
+use Rattle.laws.proofs.Tested.{below}
+
+-- what one group is worth in an entry
+abbrev pub unit : ℕ
+unit = 1048576
+
+-- the number of groups
+abbrev pub groups : ℕ
+groups = 32
+
+-- the first group that holds data
+abbrev pub firstData : ℕ
+firstData = 3
+
+-- the group of an entry
+unfoldable pub groupOf : ℕ → ℕ
+groupOf e = e / unit % groups
+
+-- the weight of an entry
+unfoldable pub weightOf : ℕ → ℕ
+weightOf e = e % unit
+
+-- one of four things, by the group: where the pulse is always 0, a mark, always 1, and data
+abbrev pub byGroup : {A : Type 0} → ℕ → A → A → A → A → A
+byGroup zero a b c d = a
+byGroup (suc zero) a b c d = b
+byGroup (suc (suc zero)) a b c d = c
+byGroup (suc (suc (suc g))) a b c d = d
+
+-- ---- reading
+
+-- the byte b may stand at the entry e
+unfoldable pub pulseAllowed : ℕ → ℕ → Bool
+pulseAllowed e b = byGroup (groupOf e) (eqb b 0) (eqb b 2) (eqb b 1) (ltb b 2)
+
+-- how many pulses from the start are as the table asks, up to the end of the shorter
+unfoldable pub goodPulses : List ℕ → List ℕ → ℕ
+goodPulses [] s = 0
+goodPulses (e ∷ t) [] = 0
+goodPulses (e ∷ t) (b ∷ s) = cond (pulseAllowed e b) (suc (goodPulses t s)) 0
+
+-- what the byte b at the entry e adds to group g: it counts by its lowest bit
+unfoldable pub shareOf : ℕ → ℕ → ℕ → ℕ
+shareOf e b g = cond (eqb (groupOf e) g) (weightOf e * (b % 2)) 0
+
+-- what the pulses of group g add up to
+unfoldable pub sumOf : List ℕ → List ℕ → ℕ → ℕ
+sumOf [] s g = 0
+sumOf (e ∷ t) [] g = 0
+sumOf (e ∷ t) (b ∷ s) g = shareOf e b g + sumOf t s g
+
+-- f 0, f 1, .. f (n - 1)
+unfoldable pub upTo : (ℕ → ℕ) → ℕ → List ℕ
+upTo f zero = []
+upTo f (suc n) = upTo f n ++ (f n ∷ [])
+
+-- no more places than these are summed
+abbrev pub mostPlaces : ℕ
+mostPlaces = 4096
+
+-- the sum of each group
+unfoldable pub sumsOf : List ℕ → List ℕ → List ℕ
+sumsOf t s = upTo (sumOf (take mostPlaces t) s) groups
+
+-- ---- writing
+
+-- the pulse at the entry e where its group says n: the digit of n that the weight picks (a weight of 0 picks a 0)
+unfoldable pub pulseOf : ℕ → ℕ → ℕ
+pulseOf e n = byGroup (groupOf e) 0 2 1 (n / weightOf e % 2)
+
+-- the pulse at the entry e where each group says its number among the values v
+unfoldable pub pulseFor : ℕ → List ℕ → ℕ
+pulseFor e v = pulseOf e (getD v (groupOf e) 0)
+
+-- the row of pulses that says the values v
+unfoldable pub row : List ℕ → List ℕ → List ℕ
+row [] v = []
+row (e ∷ t) v = pulseFor e v ∷ row t v
+
+-- the bytes are enough for the table's row
+unfoldable pub fitsIn : List ℕ → List ℕ → Bool
+fitsIn t out = leb (length t) (length out)
+
+-- the bytes with the row at their start; too few of them stay as they are
+unfoldable pub laid : List ℕ → List ℕ → List ℕ → List ℕ
+laid t v out = cond (fitsIn t out) (row t v ++ drop (length t) out) out
+
+-- ---- the shape of a table
+
+-- how many pulses group g has
+unfoldable pub pulsesIn : List ℕ → ℕ → ℕ
+pulsesIn [] g = 0
+pulsesIn (e ∷ t) g = cond (eqb (groupOf e) g) (suc (pulsesIn t g)) (pulsesIn t g)
+
+-- the pulses of group g weigh 2 ^ k and from there on twice as much each
+unfoldable pub doubling : List ℕ → ℕ → ℕ → Bool
+doubling [] g k = true
+doubling (e ∷ t) g k = cond (eqb (groupOf e) g) (eqb (weightOf e) (2 ^ k) && doubling t g (suc k)) (doubling t g k)
+
+-- the pulses of each group of data weigh 1, 2, 4, 8, ..
+unfoldable pub sound : List ℕ → Bool
+sound t = below (λ i. doubling t (firstData + i) 0) (groups - firstData)
+
+-- ---- counting
+
+-- the ones among n pulses from place a on: a byte counts by its lowest bit, so that a mark is left out
+unfoldable pub onesFrom : ℕ → ℕ → List ℕ → ℕ
+onesFrom a zero s = 0
+onesFrom a (suc n) s = onesFrom a n s + getD s (a + n) 0 % 2
+
+-- the sum of n pulses from place a on
+unfoldable pub sumFrom : ℕ → ℕ → List ℕ → ℕ
+sumFrom a zero s = 0
+sumFrom a (suc n) s = sumFrom a n s + getD s (a + n) 0
+
+-- two words pack this many pulses
+abbrev pub mostPacked : ℕ
+mostPacked = 126
+
+-- n pulses from place a on lie within l pulses, and are no more than two words pack
+unfoldable pub liesWithin : ℕ → ℕ → ℕ → Bool
+liesWithin l a n = leb (a + n) l && leb n mostPacked
+
+-- the ones among n pulses from place a on; 0 where these do not lie within
+unfoldable pub onesOf : ℕ → ℕ → List ℕ → ℕ
+onesOf a n s = cond (liesWithin (length s) a n) (onesFrom a n s) 0

@@ -1,0 +1,191 @@
+// A row of pulses, driven by a table that the caller lends: which pulses are good, what their groups add up to, the
+// row that says given values, and the count of ones. Every function takes any slices and any numbers.
+ghost use mathlib.Core.Path.{_≡_};
+ghost use Prim.Native.Nat.{_+_, _*_, _%_, _<_, _≤_, min};
+ghost use lib.Count as Count;
+ghost use lib.ListN.{length};
+ghost use Rattle.pulses.specs.Row.{
+  groupOf,
+  weightOf,
+  pulseAllowed,
+  pulseOf,
+  goodPulses,
+  sumsOf,
+  fitsIn,
+  laid,
+  onesFrom,
+  liesWithin,
+  onesOf,
+};
+
+// An entry of a table is its group times this, and its weight.
+const UNIT: u32 = 1048576;
+
+// More places than this are not summed, so that no sum outgrows its number.
+const PLACES: usize = 4096;
+
+// A word holds this many pulses, and two words are packed.
+const WORD: usize = 63;
+
+const MOST: usize = 126;
+
+fn group_of(entry: u32) -> usize
+    ensures { λ r. ⌜ r ≡ groupOf entry ⌝ }
+    ensures { λ r. ⌜ r < 32 ⌝ }
+{
+    (entry / UNIT % 32) as usize
+}
+
+fn weight_of(entry: u32) -> u32
+    ensures { λ r. ⌜ r ≡ weightOf entry ⌝ }
+    ensures { λ r. ⌜ r < 1048576 ⌝ }
+{
+    entry % UNIT
+}
+
+fn smaller(a: usize, b: usize) -> usize
+    ensures { λ r. ⌜ r ≡ min a b ⌝ }
+{
+    if a < b {
+        return a;
+    }
+    b
+}
+
+fn is_allowed(entry: u32, pulse: u8) -> bool
+    ensures { λ r. ⌜ r ≡ pulseAllowed entry pulse ⌝ }
+{
+    let group = group_of(entry);
+    if 2 < group {
+        return pulse < 2;
+    }
+    if group == 0 {
+        return pulse == 0;
+    }
+    if group == 1 {
+        return pulse == 2;
+    }
+    pulse == 1
+}
+
+// How many pulses from the start are as the table asks.
+pub fn good_pulses(table: &[u32], pulses: &[u8]) -> usize
+    ensures { λ r. ⌜ r ≡ goodPulses (now (table .entry)) (now (pulses .entry)) ⌝ }
+{
+    let end = smaller(table.len(), pulses.len());
+    let mut i = 0;
+    while i < end {
+        if !is_allowed(table[i], pulses[i]) {
+            return i;
+        }
+        i += 1;
+    }
+    i
+}
+
+// What a pulse adds to its group.
+fn share(entry: u32, pulse: u8) -> u32
+    ensures { λ r. ⌜ r ≡ weightOf entry * (pulse % 2) ⌝ }
+    ensures { λ r. ⌜ r < 1048576 ⌝ }
+{
+    weight_of(entry) * ((pulse % 2) as u32)
+}
+
+// What the pulses of each group add up to.
+pub fn sums(table: &[u32], pulses: &[u8]) -> [u32; 32]
+    ensures { λ r. ⌜ r ≡ sumsOf (now (table .entry)) (now (pulses .entry)) ⌝ }
+{
+    let mut sums = [0u32; 32];
+    let end = smaller(PLACES, smaller(table.len(), pulses.len()));
+    let mut i = 0;
+    while i < end {
+        let entry = table[i];
+        let group = group_of(entry);
+        sums[group] = sums[group] + share(entry, pulses[i]);
+        i += 1;
+    }
+    sums
+}
+
+// The pulse that says its part of the value of its group.
+fn pulse_of(entry: u32, value: u32) -> u8
+    ensures { λ r. ⌜ r ≡ pulseOf entry value ⌝ }
+{
+    let group = group_of(entry);
+    if group == 0 {
+        return 0;
+    }
+    if group == 1 {
+        return 2;
+    }
+    if group == 2 {
+        return 1;
+    }
+    let weight = weight_of(entry);
+    if weight == 0 {
+        return 0;
+    }
+    (value / weight % 2) as u8
+}
+
+// Stores the row of pulses that says the values from the start of `out`, where it fits.
+pub fn lay(out: &mut [u8], table: &[u32], values: [u32; 32]) -> bool
+    ensures { λ r. ⌜ r ≡ fitsIn (now (table .entry)) (now (out .entry)) ⌝ }
+    ensures { λ r. ⌜ now (out .exit) ≡ laid (now (table .entry)) values (now (out .entry)) ⌝ }
+{
+    if out.len() < table.len() {
+        return false;
+    }
+    let mut i = 0;
+    while i < table.len() {
+        let entry = table[i];
+        let group = group_of(entry);
+        out[i] = pulse_of(entry, values[group]);
+        i += 1;
+    }
+    true
+}
+
+// A part of `count` pulses from place `from` on lies within `length` pulses, and fits in two words.
+fn lies_within(length: usize, from: usize, count: usize) -> bool
+    ensures { λ r. ⌜ r ≡ liesWithin length from count ⌝ }
+{
+    if length < from {
+        return false;
+    }
+    (count <= length - from) & (count <= MOST)
+}
+
+fn bit(pulse: u8) -> u64
+    ensures { λ r. ⌜ r ≡ pulse % 2 ⌝ }
+{
+    (pulse % 2) as u64
+}
+
+// The pulses packed in a word, the first highest; a mark is a 0.
+fn packed(pulses: &[u8], from: usize, count: usize) -> u64
+    requires { ⌜ (from + count ≤ length (now pulses)) × (count ≤ 63) ⌝ }
+    ensures { λ r. ⌜ Count.ones r ≡ onesFrom from count (now (pulses .entry)) ⌝ }
+{
+    let mut word: u64 = 0;
+    let mut i = 0;
+    while i < count {
+        word = word * 2 + bit(pulses[from + i]);
+        i += 1;
+    }
+    word
+}
+
+// The ones among `count` pulses from place `from` on, counted in two packed words.
+pub fn ones(pulses: &[u8], from: usize, count: usize) -> u32
+    ensures { λ r. ⌜ r ≡ onesOf from count (now (pulses .entry)) ⌝ }
+    ensures { λ r. ⌜ r ≤ 126 ⌝ }
+{
+    if !lies_within(pulses.len(), from, count) {
+        return 0;
+    }
+    let first = smaller(count, WORD);
+    let high = u64::count_ones(packed(pulses, from, first));
+    let low = u64::count_ones(packed(pulses, from + first, count - first));
+    high + low
+}

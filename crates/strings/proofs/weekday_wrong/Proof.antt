@@ -1,0 +1,15 @@
+-- `strings::weekday_wrong` meets its contract. Assumes nothing.
+use borrow.Author.Needs.{needs}
+use Rattle.strings.specs.Checks.{weekdayWrong}
+use Rattle.strings.proofs.weekday_wrong.Statement.{statement}
+use Rattle.strings.proofs.weekday_wrong.Tie as tie
+
+weekday-requires : tie.Need-weekday-requires
+weekday-requires c κs = search needs
+
+returns : tie.Need-returns
+unfolding weekdayWrong
+returns c = rw (c .weekday .ensures)
+
+pub weekday-wrong-spec : {M : Type 1} → statement M
+weekday-wrong-spec = tie.close (tie.spec weekday-requires returns)
