@@ -55,3 +55,6 @@ same-bool true true t = refl
 same-bool false false t = refl
 same-bool true false t = absurd t
 same-bool false true t = absurd t
+
+pub never : {A : Type 0} → false ≡ true → A
+never e = absurd (subst T (sym e) tt)
