@@ -1,0 +1,27 @@
+-- A stream of pulses, the window that a reader keeps of it, and the answers after each pulse.
+use mathlib.Core.List.{List, [], _∷_, _++_}
+use Prim.Native.Nat.{ℕ, _-_}
+use lib.ListN.{length, drop, replicate}
+
+-- a window without its oldest pulse, with p as its newest
+unfoldable pub push : List ℕ → ℕ → List ℕ
+push w p = drop 1 w ++ (p ∷ [])
+
+-- the last n of the pulses that came
+unfoldable pub lastOf : ℕ → List ℕ → List ℕ
+lastOf n h = drop (length h - n) h
+
+-- the window of n pulses after the pulses h, where a fresh reader's window is full of a filler
+unfoldable pub windowOf : ℕ → ℕ → List ℕ → List ℕ
+windowOf n filler h = drop (length h) (replicate n filler ++ h)
+
+module _ {A : Type 0} where
+  -- what a reader with the window w says after each of the pulses that come
+  unfoldable pub saidTo : (List ℕ → A) → List ℕ → List ℕ → List A
+  saidTo say w [] = []
+  saidTo say w (p ∷ ps) = say (push w p) ∷ saidTo say (push w p) ps
+
+  -- what is owed after each of the pulses that come after the pulses h
+  unfoldable pub owedTo : (List ℕ → A) → List ℕ → List ℕ → List A
+  owedTo owed h [] = []
+  owedTo owed h (p ∷ ps) = owed (h ++ (p ∷ [])) ∷ owedTo owed (h ++ (p ∷ [])) ps
