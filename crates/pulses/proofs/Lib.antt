@@ -6,3 +6,4 @@ pub mod DigitLaws
 pub mod TripLaws
 pub mod OnesLaws
 pub mod Unique
+pub mod OutlineLaws

@@ -7,6 +7,8 @@ use denote.Ref.{now}
 use mathlib.Core.Path.{_≡_}
 use Rattle.laws.proofs.Coincide.{Coincide}
 use Rattle.pulses.proofs.good_pulses.Reads as good-pulses-reads
+use Rattle.pulses.proofs.outline.outlined.Kinds as outlined-kinds
+use Rattle.pulses.proofs.outline.outlined.Reads as outlined-reads
 use Rattle.pulses.proofs.good_pulses.Kinds as good-pulses-kinds
 use Rattle.pulses.proofs.sums.Reads as sums-reads
 use Rattle.pulses.proofs.sums.Kinds as sums-kinds
@@ -29,3 +31,6 @@ pub lay-one : (κs : Lfts 2) (a : Dens κs lay-kinds.ps) (x y : resT lay-kinds.r
     (e f : AtExit (endedOf 2 lay-kinds.ps lay-kinds.r) κs)
     → lay-reads.Post κs a x e → lay-reads.Post κs a y f → (x ≡ y) × (now (e .0) ≡ now (f .0))
 lay-one κs a x y e f p q = (cc, cc)
+
+pub outlined-one : Coincide 2 outlined-kinds.ps outlined-kinds.r outlined-reads.Post
+outlined-one κs a x y e f p q = cc

@@ -1,5 +1,7 @@
 // A row of pulses, driven by a table that the caller lends: which pulses are good, what their groups add up to, the
 // row that says given values, and the count of ones. Every function takes any slices and any numbers.
+pub mod outline;
+
 ghost use mathlib.Core.Path.{_≡_};
 ghost use Prim.Native.Nat.{_+_, _*_, _%_, _<_, _≤_, min};
 ghost use lib.Count as Count;
