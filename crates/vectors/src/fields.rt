@@ -1,0 +1,47 @@
+// What a case's payload holds: bytes at places, and a reading in its first twelve.
+use reading::AddedToLocal;
+use reading::LocalMinusUtc;
+use reading::Reading;
+
+// The byte at a place; past the end it is 0.
+pub fn byte(payload: &[u8], at: usize) -> u8 {
+    if at < payload.len() { payload[at] } else { 0 }
+}
+
+pub fn flag(payload: &[u8], at: usize) -> bool {
+    byte(payload, at) != 0
+}
+
+// Two bytes, the lower first.
+pub fn pair(payload: &[u8], at: usize) -> u16 {
+    if at < payload.len() {
+        (byte(payload, at) as u16) + 256 * (byte(payload, at + 1) as u16)
+    } else {
+        0
+    }
+}
+
+// An offset as a signed byte: from 128 on it lies west, and its opposite is added to local time.
+fn offset(b: u8) -> LocalMinusUtc {
+    if b < 128 {
+        LocalMinusUtc(b as i8)
+    } else {
+        AddedToLocal((256 - (b as u16)) as i16).local()
+    }
+}
+
+pub fn reading_in(payload: &[u8]) -> Reading {
+    Reading {
+        year: pair(payload, 0),
+        month: byte(payload, 2),
+        day: byte(payload, 3),
+        hour: byte(payload, 4),
+        minute: byte(payload, 5),
+        second: byte(payload, 6),
+        offset: offset(byte(payload, 7)),
+        summer: flag(payload, 8),
+        leap: flag(payload, 9),
+        change: flag(payload, 10),
+        quality: byte(payload, 11),
+    }
+}

@@ -1,0 +1,174 @@
+"""The command: reads cases (op, length, payload) from standard input and prints a line for each,
+to be compared with the lines the proved library gives for the same cases."""
+
+import struct
+import sys
+from typing import Callable, Iterator, Tuple, Union
+
+import bridge
+import dcf77
+import erlangen
+import ieee1344
+import meinberg
+import pulse_readers
+from book import listing_lines
+from reading import Reading, Refusal, Told, stamp
+
+FILLING = 0xA5
+READING_BYTES = 12
+WRITER_BYTES = 15
+BRIDGE_KINDS = {1: "Meinberg", 2: "Uni Erlangen"}
+BAD = "bad"
+
+
+def words_of(answer: Union[Told, Refusal]) -> list:
+    """A reader's answer as words: time and its fields, or no, code and place."""
+    if isinstance(answer, Refusal):
+        return ["no", str(answer.code), str(answer.place)]
+    numbers = [str(int(value)) for value in answer.reading]
+    if answer.beside is not None:
+        numbers.append(str(int(answer.beside)))
+    return ["time"] + numbers
+
+
+def hexadecimal(data: bytes) -> str:
+    return data.hex() or "-"
+
+
+def reading_of(payload: bytes) -> Reading:
+    """The reading in the first twelve bytes; a flag is set by any byte but 0."""
+    (year, month, day, hour, minute, second, offset, summer, leap, change,
+     quality) = struct.unpack_from("<HBBBBBbBBBB", payload)
+    return Reading(year, month, day, hour, minute, second, offset,
+                   bool(summer), bool(leap), bool(change), quality)
+
+
+def read_line(read: Callable, payload: bytes) -> str:
+    return " ".join(words_of(read(payload)))
+
+
+def erlangen_line(payload: bytes) -> str:
+    return "%s part %s" % (read_line(erlangen.read, payload),
+                           hexadecimal(erlangen.position_part(payload)))
+
+
+def written_line(answer: Union[int, Refusal], output: bytes) -> str:
+    if isinstance(answer, Refusal):
+        return "no %d %d %s" % (answer.code, answer.place, hexadecimal(output))
+    return "wrote %d %s" % (answer, hexadecimal(output))
+
+
+def write_line(write: Callable, payload: bytes) -> str:
+    """Asks a writer, given as a function of reading, beside, rest of the payload and output."""
+    if len(payload) < WRITER_BYTES:
+        return BAD
+    beside, room = struct.unpack_from("<HB", payload, READING_BYTES)
+    output = bytearray([FILLING]) * room
+    answer = write(reading_of(payload), beside, payload[WRITER_BYTES:], output)
+    return written_line(answer, output)
+
+
+def stamp_line(payload: bytes) -> str:
+    if len(payload) < READING_BYTES:
+        return BAD
+    value = stamp(reading_of(payload))
+    if isinstance(value, Refusal):
+        return "no %d %d" % (value.code, value.place)
+    return "at %d" % value
+
+
+def bridge_line(payload: bytes) -> str:
+    if len(payload) < 2 or payload[0] not in BRIDGE_KINDS:
+        return BAD
+    output = bytearray([FILLING]) * payload[1]
+    answer = bridge.bridge(BRIDGE_KINDS[payload[0]], payload[2:], output)
+    return written_line(answer, output)
+
+
+def said_line(reader, payload: bytes) -> str:
+    """Feeds a fresh reader; what it said, with the count of pulses at which it said it."""
+    parts = ["said"]
+    for at, pulse in enumerate(payload, 1):
+        answer = reader.take(pulse)
+        if answer is not None:
+            parts.append("%d:%s" % (at, ",".join(words_of(answer))))
+    return " ".join(parts)
+
+
+def changes_line(read: Callable, payload: bytes) -> str:
+    """Every one-byte change of the payload; those refused by 2 at their place are only counted."""
+    parts = ["changes"]
+    others = 0
+    changed = bytearray(payload)
+    for place, original in enumerate(payload):
+        for byte in range(256):
+            if byte == original:
+                continue
+            changed[place] = byte
+            answer = read(changed)
+            if answer == (2, place):
+                others += 1
+            elif isinstance(answer, Refusal):
+                parts.append("%d.%d=%d.%d" % (place, byte, answer.code, answer.place))
+            else:
+                parts.append("%d.%d=time" % (place, byte))
+        changed[place] = original
+    return "%s others %d" % (" ".join(parts), others)
+
+
+WRITERS = {
+    5: lambda reading, beside, _, output: meinberg.write(reading, beside != 0, output),
+    6: lambda reading, beside, rest, output: erlangen.write(reading, beside != 0, rest, output),
+    7: lambda reading, _, __, output: ieee1344.write(reading, output),
+    8: lambda reading, beside, _, output: dcf77.write(reading, beside, output),
+}
+
+LINES = {
+    1: lambda payload: read_line(meinberg.read, payload),
+    2: erlangen_line,
+    3: lambda payload: read_line(ieee1344.read, payload),
+    4: lambda payload: read_line(dcf77.read, payload),
+    5: lambda payload: write_line(WRITERS[5], payload),
+    6: lambda payload: write_line(WRITERS[6], payload),
+    7: lambda payload: write_line(WRITERS[7], payload),
+    8: lambda payload: write_line(WRITERS[8], payload),
+    9: stamp_line,
+    10: bridge_line,
+    11: lambda payload: said_line(pulse_readers.FrameReader(), payload),
+    12: lambda payload: said_line(pulse_readers.MinuteReader(), payload),
+    13: lambda payload: " | ".join(listing_lines(payload)),
+    20: lambda payload: changes_line(meinberg.read, payload),
+    21: lambda payload: changes_line(erlangen.read, payload),
+    22: lambda payload: changes_line(ieee1344.read, payload),
+    23: lambda payload: changes_line(dcf77.read, payload),
+}
+
+
+def answer_line(op: int, payload: bytes) -> str:
+    line = LINES.get(op)
+    return BAD if line is None else line(payload)
+
+
+def cases_of(stream: bytes) -> Iterator[Tuple[int, bytes]]:
+    """The cases of a stream; one that is cut off at the end comes as op 0, which is bad."""
+    at = 0
+    while at < len(stream):
+        if at + 3 > len(stream):
+            yield 0, b""
+            return
+        op, length = struct.unpack_from("<BH", stream, at)
+        if at + 3 + length > len(stream):
+            yield 0, b""
+            return
+        yield op, stream[at + 3:at + 3 + length]
+        at += 3 + length
+
+
+def main() -> None:
+    write = sys.stdout.write
+    for op, payload in cases_of(sys.stdin.buffer.read()):
+        write(answer_line(op, payload) + "\n")
+
+
+if __name__ == "__main__":
+    main()

@@ -1,0 +1,66 @@
+"""The record book: a kind byte and a body for each record, walked in order, and its listing."""
+
+from typing import Iterator, List, NamedTuple, Union
+
+import dcf77
+import erlangen
+import ieee1344
+import meinberg
+from reading import Refusal, Told, stamp
+
+LARGEST_BOOK = 65536
+HEADER = "at kind answer value place"
+# kind -> (length of the body, reader of the body)
+KINDS = {
+    1: (meinberg.LENGTH, meinberg.read),
+    2: (erlangen.LENGTH, erlangen.read),
+    3: (ieee1344.LENGTH, ieee1344.read),
+    4: (dcf77.LENGTH, dcf77.read),
+    5: (dcf77.LONG_LENGTH, dcf77.read),
+}
+
+
+class Record(NamedTuple):
+    """Where its kind byte stands, the kind, and what was said of the body."""
+
+    at: int
+    kind: int
+    answer: Union[Told, Refusal]
+
+
+def records(book: bytes) -> Iterator[Record]:
+    """Walks the book; a refused body does not stop the walk, codes 13 and 14 do."""
+    at = 0
+    while at < len(book):
+        kind = book[at]
+        if kind not in KINDS:
+            yield Record(at, kind, Refusal(14))
+            return
+        length, read = KINDS[kind]
+        if at + 1 + length > len(book):
+            yield Record(at, kind, Refusal(13))
+            return
+        yield Record(at, kind, read(book[at + 1:at + 1 + length]))
+        at += 1 + length
+
+
+def line_of(record: Record) -> str:
+    """A record's line of the listing."""
+    value = record.answer
+    if isinstance(value, Told):
+        value = stamp(value.reading)
+    if isinstance(value, Refusal):
+        return "%d %d no %d %d" % (record.at, record.kind, value.code, value.place)
+    return "%d %d ok %d 0" % (record.at, record.kind, value)
+
+
+def listing_lines(book: bytes) -> List[str]:
+    """The listing without its header."""
+    if len(book) > LARGEST_BOOK:
+        return ["0 0 no 1 0"]
+    return [line_of(record) for record in records(book)]
+
+
+def listing_text(book: bytes) -> str:
+    """The whole listing, as the listing program prints it."""
+    return "".join(line + "\n" for line in [HEADER] + listing_lines(book))

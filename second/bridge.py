@@ -1,0 +1,28 @@
+"""The bridge: reads a string of a named kind and writes the IEEE 1344 frame of its reading."""
+
+from typing import Union
+
+import erlangen
+import ieee1344
+import meinberg
+from reading import Reading, Refusal, in_leap_minute
+
+READERS = {"Meinberg": meinberg.read, "Uni Erlangen": erlangen.read}
+
+
+def bridged(reading: Reading) -> Reading:
+    """The reading with its announcements turned into the frame's pending bits."""
+    in_window = 1 <= reading.second <= 59
+    return reading._replace(
+        leap=bool(reading.leap) and in_window and in_leap_minute(reading),
+        change=bool(reading.change) and in_window and reading.minute == 59)
+
+
+def bridge(kind: str, string: bytes, output: bytearray) -> Union[int, Refusal]:
+    """Output length first, then the string's own refusal, then the frame; coasting is dropped."""
+    if len(output) < ieee1344.LENGTH:
+        return Refusal(1)
+    answer = READERS[kind](string)
+    if isinstance(answer, Refusal):
+        return answer
+    return ieee1344.write(bridged(answer.reading), output)

@@ -1,0 +1,138 @@
+"""Parts the case makers share: packing a case, packing a reading, and raw strings, frames and
+minutes that are built from any field values without asking whether they are good."""
+
+import struct
+from datetime import datetime, timedelta
+from typing import Iterable
+
+import dcf77
+import ieee1344
+from layout import ones_are_odd
+from reading import Reading
+
+POSITION = b" 51.9826N    9.2258E  176m"
+PLAIN = Reading(2024, 2, 29, 12, 34, 56, 2, False, False, False, 0)  # case 6 of document 01
+LARGEST_PAYLOAD = 4000
+REAL_LEAP_DAYS = ((2005, 12, 31), (2008, 12, 31), (2016, 12, 31), (2012, 6, 30), (2015, 6, 30))
+
+
+def case(op: int, payload: bytes = b"") -> bytes:
+    assert len(payload) < LARGEST_PAYLOAD
+    return struct.pack("<BH", op, len(payload)) + bytes(payload)
+
+
+def reading_bytes(reading: Reading) -> bytes:
+    return struct.pack("<HBBBBBbBBBB", *(int(value) for value in reading))
+
+
+def write_case(op: int, reading: Reading, beside: int = 0, room: int = 255,
+               position: bytes = b"") -> bytes:
+    return case(op, reading_bytes(reading) + struct.pack("<HB", beside, room) + position)
+
+
+def bridge_case(kind: int, room: int, string: bytes) -> bytes:
+    return case(10, bytes((kind, room)) + string)
+
+
+def local(utc: datetime, offset: int, second: int = 0, **flags) -> Reading:
+    """The reading of a UTC minute at an offset; flags and quality as given, else none."""
+    at = utc + timedelta(minutes=30 * offset)
+    return Reading(at.year, at.month, at.day, at.hour, at.minute, second, offset,
+                   flags.get("summer", False), flags.get("leap", False),
+                   flags.get("change", False), flags.get("quality", 0))
+
+
+def weekday_digit(year: int, month: int, day: int) -> int:
+    """The weekday of a date, 1 where there is no such date."""
+    try:
+        return datetime(year, month, day).isoweekday()
+    except ValueError:
+        return 1
+
+
+def raw_meinberg(reading: Reading = PLAIN, weekday: int = -1, letters: str = "",
+                 coasting: bool = False) -> bytes:
+    """A Meinberg string of any two-digit values; letters replace uvxy."""
+    if weekday < 0:
+        weekday = weekday_digit(*reading[:3])
+    zone = {0: "U", 4: "S"}.get(reading.offset, " ")
+    announced = "A" if reading.leap else "!" if reading.change else " "
+    letters = letters or ("#" if reading.quality else " ") + (
+        "*" if coasting else " ") + zone + announced
+    return ("\x02D:%02d.%02d.%02d;T:%d;U:%02d.%02d.%02d;%s\x03" % (
+        reading.day, reading.month, reading.year % 100, weekday, reading.hour, reading.minute,
+        reading.second, letters)).encode("latin-1")
+
+
+def raw_erlangen(reading: Reading = PLAIN, weekday: int = -1, offset: str = "",
+                 letters: str = "", position: bytes = POSITION, coasting: bool = False) -> bytes:
+    """A Uni Erlangen string of any two-digit values; offset and letters replace voo:oo, acdfg i."""
+    if weekday < 0:
+        weekday = weekday_digit(*reading[:3])
+    size = abs(reading.offset)
+    offset = offset or "%s%02d:%02d" % ("-" if reading.offset < 0 else "+", size // 2, size % 2 * 30)
+    letters = letters or "".join(letter if wanted else " " for letter, wanted in (
+        ("#", reading.quality), ("*", coasting), ("S", reading.summer), ("!", reading.change),
+        ("A", reading.leap), (" ", True), ("L", reading.second == 60)))
+    return ("\x02%02d.%02d.%02d; %d; %02d:%02d:%02d; %s; %s; " % (
+        reading.day, reading.month, reading.year % 100, weekday, reading.hour, reading.minute,
+        reading.second, offset, letters)).encode("latin-1") + position + b"\x03"
+
+
+def said_in_frame(reading: Reading = PLAIN) -> dict:
+    """Field values of a frame; an impossible date is taken as day 0 of the year."""
+    try:
+        return ieee1344.said_of(reading)
+    except ValueError:
+        return dict(ieee1344.said_of(reading._replace(month=1, day=1)), **{"day of year": 0})
+
+
+def raw_frame(reading: Reading = PLAIN, **changed: int) -> bytearray:
+    """A frame of any field values, parity mended; names use _ for spaces."""
+    said = said_in_frame(reading)
+    said.update({name.replace("_", " "): value for name, value in changed.items()})
+    if not any(name in changed for name in ("second_of_day", "keep_binary")):
+        said["second of day"] = said["hour"] * 3600 + said["minute"] * 60 + said["second"]
+    said.pop("keep binary", None)
+    return ieee1344.frame_of(said)
+
+
+def mend_frame(pulses: bytearray) -> bytearray:
+    """Makes the parity even again after pulses were set by hand."""
+    if len(pulses) == 100 and ones_are_odd(pulses, ieee1344.PARITY_PLACES):
+        pulses[75] ^= 1
+    return pulses
+
+
+def mend_minute(marks: bytearray) -> bytearray:
+    """Makes the three parities even again after marks were set by hand."""
+    for parity, group in dcf77.PARITY_GROUPS.items():
+        if len(marks) > 58 and ones_are_odd(marks, group):
+            marks[parity] ^= 1
+    return marks
+
+
+def with_pulses(pulses: bytes, places: Iterable[int], value: int) -> bytearray:
+    changed = bytearray(pulses)
+    for place in places:
+        changed[place] = value
+    return changed
+
+
+def raw_minute(reading: Reading = PLAIN, head: int = 0, length: int = 0,
+               **changed: int) -> bytearray:
+    """A minute of any field values, parities mended; the right length unless one is given."""
+    said = {"head": head, "change": int(reading.change), "leap": int(reading.leap), "start": 1,
+            "summer zone": int(reading.summer), "winter zone": int(not reading.summer),
+            "minute": reading.minute, "hour": reading.hour, "day": reading.day,
+            "weekday": weekday_digit(*reading[:3]), "month": reading.month,
+            "year": reading.year % 100}
+    said.update({name.replace("_", " "): value for name, value in changed.items()})
+    if not length:
+        length = dcf77.LONG_LENGTH if dcf77.is_long(reading) else dcf77.LENGTH
+    return dcf77.minute_of(said, length)
+
+
+def german_minute(utc: datetime, summer: bool, **flags) -> Reading:
+    """The reading a DCF77 minute names, in Central European time."""
+    return local(utc, 4 if summer else 2, summer=summer, **flags)

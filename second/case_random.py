@@ -1,0 +1,197 @@
+"""Random cases over all ops from a seed, most of them nearly valid."""
+
+import random
+from datetime import datetime, timedelta
+from typing import Callable, Dict, Iterator
+
+from case_parts import (POSITION, bridge_case, case, local, mend_frame, mend_minute, raw_erlangen,
+                        raw_frame, raw_meinberg, raw_minute, reading_bytes, write_case)
+from case_streams import DAMAGES, damaged
+from reading import Reading
+
+DAY_COUNT = 36525
+ODD_VALUES = {"year": (1999, 2100, 0, 65535), "month": (0, 13, 255), "day": (0, 29, 30, 31, 32, 255),
+              "hour": (24, 0, 23, 255), "minute": (60, 59, 0, 255), "second": (60, 61, 59, 0, 255),
+              "offset": (-25, 29, -24, 28, -128, 127), "quality": (0, 1, 14, 15, 16, 255)}
+STRING_VALUES = {"month": (0, 13, 99), "day": (0, 29, 30, 31, 32, 99), "hour": (24, 0, 23, 99),
+                 "minute": (60, 59, 0, 99), "second": (60, 61, 59, 0, 99)}
+
+
+def good_reading(dice: random.Random) -> Reading:
+    """A reading that any format but the frame may still refuse; often near a leap second."""
+    offset = dice.choice((0, 2, 4, 2, 4, dice.randrange(-24, 29)))
+    utc = datetime(2000, 1, 1) + timedelta(days=dice.randrange(DAY_COUNT),
+                                           minutes=dice.randrange(1440))
+    second = dice.choice((0, 0, 1, 59, dice.randrange(60)))
+    if dice.random() < 0.3:
+        month, day = dice.choice(((6, 30), (12, 31)))
+        utc = datetime(dice.randrange(2001, 2099), month, day, 23, 59)
+        utc += timedelta(minutes=dice.choice((-1, 0, 0, 0, 1, 1)))
+        second = dice.choice((0, 1, 59, 60, 60))
+    reading = local(utc, offset, second, summer=offset == 4,
+                    leap=dice.random() < 0.3, change=dice.random() < 0.2,
+                    quality=dice.choice((0, 0, 0, 15, 15, dice.randrange(16))))
+    if dice.random() < 0.03:  # the hundred years' first and last hour, UTC perhaps outside
+        edge = dice.choice(((2000, 1, 1, 0), (2099, 12, 31, 23)))
+        return reading._replace(year=edge[0], month=edge[1], day=edge[2], hour=edge[3])
+    return reading if 2000 <= reading.year <= 2099 else reading._replace(year=2050)
+
+
+def any_reading(dice: random.Random, odd: dict = ODD_VALUES) -> Reading:
+    """A good reading with up to two fields changed to edge values."""
+    reading = good_reading(dice)
+    for _ in range(dice.choice((0, 0, 0, 1, 1, 2))):
+        name = dice.choice(list(odd))
+        reading = reading._replace(**{name: dice.choice(odd[name])})
+    if dice.random() < 0.05:
+        reading = reading._replace(summer=not reading.summer)
+    return reading
+
+
+def spoiled(data: bytes, dice: random.Random, alphabet: bytes, mend: Callable) -> bytes:
+    """Half the time the data as it is, else with a few changed bytes or another length."""
+    changed = bytearray(data)
+    way = dice.randrange(12)
+    if way >= 6 and way < 11:
+        for _ in range(dice.choice((1, 1, 2, 3))):
+            at = dice.randrange(len(changed))
+            changed[at] = dice.choice(alphabet) if way < 10 else dice.randrange(256)
+        if way in (6, 7):
+            changed = mend(changed)
+    elif way == 11:
+        length = max(0, len(changed) + dice.choice((-1, 1, -2, 2, -len(changed), 8, 36)))
+        changed = (changed * 3)[:length]
+    return bytes(changed)
+
+
+def as_it_is(data: bytearray) -> bytearray:
+    return data
+
+
+def a_meinberg(dice: random.Random) -> bytes:
+    weekday = dice.choice((-1, -1, -1, -1, dice.randrange(10)))
+    string = raw_meinberg(any_reading(dice, STRING_VALUES), weekday, coasting=dice.random() < 0.3)
+    return spoiled(string, dice, b"0123456789 U!AS#*", as_it_is)
+
+
+def an_erlangen(dice: random.Random) -> bytes:
+    weekday = dice.choice((-1, -1, -1, -1, dice.randrange(10)))
+    offset = dice.choice(("", "", "", "", "-00:00", "+14:30", "+05:45", "-12:30", "+00:30"))
+    string = raw_erlangen(any_reading(dice, STRING_VALUES), weekday, offset,
+                          coasting=dice.random() < 0.3)
+    return spoiled(string, dice, b"0123456789 L!AS#*+-", as_it_is)
+
+
+def a_frame(dice: random.Random) -> bytes:
+    reading = any_reading(dice, {"hour": (24, 29, 0), "minute": (60, 79, 59), "second": (60, 61, 79),
+                                 "offset": (-31, 29, 31, -25, 0), "month": (13,), "day": (30, 31)})
+    changed = {}
+    if dice.random() < 0.1:
+        changed = dice.choice(({"deletion": 1}, {"minus": 1}, {"day_of_year": 366},
+                               {"second_of_day": dice.randrange(86401)}, {"day_of_year": 0}))
+    return spoiled(raw_frame(reading, **changed), dice, b"\x00\x01\x00\x01\x00\x01\x02", mend_frame)
+
+
+def a_minute(dice: random.Random) -> bytes:
+    reading = any_reading(dice, {"hour": (24, 29, 0), "minute": (60, 79, 0), "day": (0, 30, 31, 39),
+                                 "month": (0, 13, 19)})
+    changed = {}
+    if dice.random() < 0.1:
+        changed = dice.choice(({"summer_zone": 1}, {"winter_zone": 0}, {"weekday": 0},
+                               {"weekday": dice.randrange(8)}, {"start": 0}))
+    long = reading.leap and reading.minute == 0
+    length = dice.choice((60, 61)) if dice.random() < 0.1 else 61 if long else 60
+    marks = raw_minute(reading, dice.randrange(32768), length, **changed)
+    return spoiled(marks, dice, b"\x00\x01\x00\x01\x00\x01\x02", mend_minute)
+
+
+def a_write(op: int, length: int, dice: random.Random) -> bytes:
+    reading = any_reading(dice)
+    if op == 8 and dice.random() < 0.8:
+        reading = reading._replace(second=0, quality=0, offset=4 if reading.summer else 2)
+    room = dice.choice((length, length, length, length + 1, length - 1, 255, 0, length + 2))
+    beside = dice.choice((0, 1)) if op in (5, 6) else dice.choice(
+        (0, 1, 32767, dice.randrange(32768), dice.randrange(32768), dice.randrange(65536)))
+    position = b""
+    if op == 6:
+        position = spoiled(POSITION, dice, b"0123456789 NEm\x1f\x7f", as_it_is)[:60]
+    return write_case(op, reading, beside, room, position)
+
+
+def a_bridge(dice: random.Random) -> bytes:
+    kind = dice.choice((1, 2))
+    string = a_meinberg(dice) if kind == 1 else an_erlangen(dice)
+    if dice.random() < 0.02:
+        kind = dice.choice((1, 2, 3))
+    return bridge_case(kind, dice.choice((100, 100, 100, 100, 101, 99, 255, 0)), string)
+
+
+def a_stream(op: int, dice: random.Random) -> bytes:
+    """Up to three frames or minutes with some damage, some sharing a mark."""
+    stream = b"" if op == 11 else b"\x02"
+    for _ in range(dice.choice((1, 2, 2, 3))):
+        piece = a_frame(dice) if op == 11 else a_minute(dice)
+        stream += piece[1:] if op == 11 and stream and dice.random() < 0.4 else piece
+    for _ in range(dice.choice((0, 0, 1, 2))):
+        if len(stream) > 2:
+            stream = damaged(stream, dice.choice(DAMAGES), dice.randrange(len(stream) - 1), dice)
+    return case(op, stream)
+
+
+def a_book(dice: random.Random) -> bytes:
+    book = b""
+    for _ in range(dice.randrange(6)):
+        kind = dice.choice((1, 2, 3, 4, 4, 5))
+        body = {1: a_meinberg, 2: an_erlangen, 3: a_frame, 4: a_minute, 5: a_minute}[kind](dice)
+        if dice.random() < 0.9:
+            length = {1: 32, 2: 68, 3: 100, 4: 60, 5: 61}[kind]
+            body = (body + bytes(length))[:length]
+        book += bytes((kind,)) + body
+    if dice.random() < 0.2:
+        book += bytes((dice.randrange(256),))
+    return case(13, book)
+
+
+def a_bad_case(dice: random.Random) -> bytes:
+    op = dice.choice((0, 5, 6, 7, 8, 9, 10, 14, 19, 24, 128, 255))
+    return case(op, bytes(dice.randrange(256) for _ in range(dice.randrange(16))))
+
+
+MAKERS: Dict[int, Callable[[random.Random], bytes]] = {
+    1: lambda dice: case(1, a_meinberg(dice)),
+    2: lambda dice: case(2, an_erlangen(dice)),
+    3: lambda dice: case(3, a_frame(dice)),
+    4: lambda dice: case(4, a_minute(dice)),
+    5: lambda dice: a_write(5, 32, dice),
+    6: lambda dice: a_write(6, 68, dice),
+    7: lambda dice: a_write(7, 100, dice),
+    8: lambda dice: a_write(8, 60, dice),
+    9: lambda dice: case(9, reading_bytes(any_reading(dice))),
+    10: a_bridge,
+    11: lambda dice: a_stream(11, dice),
+    12: lambda dice: a_stream(12, dice),
+    13: a_book,
+}
+CHANGES = {20: raw_meinberg, 21: raw_erlangen, 22: raw_frame}
+
+
+def a_change_case(dice: random.Random) -> bytes:
+    """Ops 20 to 23 on a good input; they are long work, so they are rare."""
+    op = dice.choice((20, 21, 22, 23))
+    reading = good_reading(dice)
+    if op == 23:
+        long = reading.leap and reading.minute == 0
+        return case(op, raw_minute(reading, dice.randrange(32768), 61 if long else 60))
+    return case(op, CHANGES[op](reading))
+
+
+def make(seed: int, count: int) -> Iterator[bytes]:
+    dice = random.Random(seed)
+    for _ in range(count):
+        luck = dice.random()
+        if luck < 0.0002:
+            yield a_change_case(dice)
+        elif luck < 0.01:
+            yield a_bad_case(dice)
+        else:
+            yield MAKERS[dice.randrange(1, 14)](dice)

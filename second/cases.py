@@ -1,0 +1,41 @@
+"""The command that writes a named, deterministic stream of cases to standard output.
+Use: cases.py NAME, or cases.py random SEED COUNT."""
+
+import sys
+from typing import Iterator
+
+import case_frames
+import case_minutes
+import case_others
+import case_random
+import case_streams
+import case_strings
+
+NAMED = {
+    "strings": case_strings.make,
+    "frames": case_frames.make,
+    "minutes": case_minutes.make,
+    "stamps": case_others.stamps,
+    "bridges": case_others.bridges,
+    "streams": case_streams.make,
+    "books": case_others.books,
+}
+
+
+def stream_of(arguments: list) -> Iterator[bytes]:
+    """The cases asked for, or an error in words."""
+    if len(arguments) == 1 and arguments[0] in NAMED:
+        return NAMED[arguments[0]]()
+    if len(arguments) == 3 and arguments[0] == "random":
+        return case_random.make(int(arguments[1]), int(arguments[2]))
+    sys.exit("use: cases.py %s, or cases.py random SEED COUNT" % "|".join(NAMED))
+
+
+def main() -> None:
+    write = sys.stdout.buffer.write
+    for case in stream_of(sys.argv[1:]):
+        write(case)
+
+
+if __name__ == "__main__":
+    main()

@@ -1,0 +1,228 @@
+"""Self tests: document 01's cases and its listing, round trips and untouched memory over all named
+streams, and that every op gives exactly the refusal codes the papers allow it."""
+
+import random
+import sys
+from typing import Dict, Iterator, List, Set
+
+import answers
+import book
+import case_frames
+import case_random
+import cases
+import dcf77
+import erlangen
+import ieee1344
+import meinberg
+from pulse_readers import FrameReader
+from reading import Reading, Refusal, Told, stamp, utc_minute
+
+CASE_SIX = Reading(2024, 2, 29, 12, 34, 56, 2, False, False, False, 0)
+CASE_SIX_ONES = [2, 3, 6, 8, 12, 15, 16, 21, 25, 36, 37, 52, 56, 64, 65, 75, 84, 85, 86, 87, 93,
+                 94, 96]
+CASE_EIGHT_ONES = [18, 20, 23, 25, 26, 28, 30, 33, 36, 39, 41, 44, 46, 52, 55, 58]
+CASE_TWO = b"\x02D:31.12.16;T:6;U:23.59.60;  UA\x03"
+# op -> every code it can give; each must occur in the named streams, and no other may.
+CODES = {1: {1, 2, 5, 6, 9}, 2: {1, 2, 5, 6, 8, 9}, 3: {1, 2, 3, 4, 5, 7, 8, 9, 10},
+         4: {1, 2, 3, 4, 5, 6, 8, 9}, 5: {1, 5, 8, 9, 11}, 6: {1, 2, 5, 8, 9, 11},
+         7: {1, 5, 8, 9}, 8: {1, 5, 8, 9, 11}, 9: {5, 8, 9, 12}, 10: {1, 2, 5, 6, 8, 9},
+         11: {2, 3, 4, 5, 7, 8, 9, 10}, 12: {2, 3, 4, 5, 6, 8, 9},
+         13: {2, 3, 4, 5, 6, 7, 8, 9, 10, 12, 13, 14}}
+FILLED = bytes([answers.FILLING])
+
+
+class Checks:
+    """Counts the checks and remembers the failed ones."""
+
+    def __init__(self) -> None:
+        self.passed = 0
+        self.failed: List[str] = []
+
+    def that(self, holds: bool, what: str) -> None:
+        if holds:
+            self.passed += 1
+        else:
+            self.failed.append(what)
+
+
+def frame_of(reading: Reading) -> bytes:
+    output = bytearray(ieee1344.LENGTH)
+    assert ieee1344.write(reading, output) == ieee1344.LENGTH
+    return bytes(output)
+
+
+def moment(year: int, month: int, day: int, hour: int, minute: int, second: int,
+           offset: int) -> Reading:
+    return Reading(year, month, day, hour, minute, second, offset, False, False, False, 0)
+
+
+def check_dates(check: Checks) -> None:
+    """Cases 1 to 5 and 9."""
+    check.that(stamp(moment(2000, 1, 1, 0, 0, 0, 0)) == 0, "case 1")
+    told = meinberg.read(CASE_TWO)
+    check.that(isinstance(told, Told) and stamp(told.reading) == 536550209, "case 2")
+    check.that(stamp(moment(2017, 1, 1, 0, 59, 60, 2)) == 536550209, "case 3, leap second")
+    check.that(stamp(moment(2017, 1, 1, 0, 0, 0, 0)) == 536550210, "case 3, midnight")
+    check.that(stamp(moment(2017, 1, 2, 0, 59, 60, 2)) == Refusal(9), "case 4")
+    good = b"\x02D:29.02.24;T:4;U:12.34.56;    \x03"
+    check.that(isinstance(meinberg.read(good), Told), "case 5, 2024")
+    check.that(meinberg.read(good.replace(b"24;T", b"23;T")) == Refusal(5), "case 5, 2023")
+    early = moment(2000, 1, 1, 0, 30, 0, 2)
+    check.that(isinstance(ieee1344.read(frame_of(early)), Told), "case 9, accepted")
+    check.that(stamp(early) == Refusal(12), "case 9, stamp")
+    check.that(stamp(moment(2099, 12, 31, 23, 59, 60, 0)) == 3155796524, "largest stamp")
+
+
+def check_frames(check: Checks) -> None:
+    """Cases 6, 7, 8, 10 and 11."""
+    frame = frame_of(CASE_SIX)
+    check.that([place for place in range(100) if frame[place] == 1] == CASE_SIX_ONES, "case 6")
+    check.that(ieee1344.read(frame) == Told(CASE_SIX), "case 6, read")
+    cleared = frame[:84] + b"\x00" + frame[85:]
+    check.that(ieee1344.read(cleared) == Refusal(7), "case 7")
+    minute = bytearray(60)
+    check.that(dcf77.write(CASE_SIX._replace(second=0), 0, minute) == 60, "case 8, length")
+    check.that([place for place in range(60) if minute[place] == 1] == CASE_EIGHT_ONES, "case 8")
+    check.that(minute[59] == 2, "case 8, gap")
+    for offset, wanted in ((28, 100), (29, Refusal(8)), (-24, 100), (-25, Refusal(8))):
+        answer = ieee1344.write(CASE_SIX._replace(offset=offset), bytearray(100))
+        check.that(answer == wanted, "case 10, offset %d" % offset)
+    reader = FrameReader()
+    said = [(at, answer) for at, answer in enumerate(map(reader.take, frame + frame[1:]), 1)
+            if answer is not None]
+    check.that(said == [(100, Told(CASE_SIX)), (199, Told(CASE_SIX))], "case 11")
+
+
+def check_layouts(check: Checks) -> None:
+    """Every pulse has one field at most, the others are marks or always 0; lengths agree."""
+    for fields in (ieee1344.FIELDS, dcf77.FIELDS):
+        pulses = [pulse for field in fields.values() for pulse, _ in field]
+        check.that(len(pulses) == len(set(pulses)), "a pulse in two fields")
+    zeros = tuple(place for place in range(100) if ieee1344.ALLOWED[place] == {0})
+    check.that(zeros == case_frames.ALWAYS_ZERO, "always-zero pulses")
+    marks = tuple(place for place in range(100) if ieee1344.ALLOWED[place] == {2})
+    check.that(marks == (0,) + tuple(range(9, 100, 10)), "position marks")
+    named = {pulse for field in dcf77.FIELDS.values() for pulse, _ in field}
+    check.that(named | {0, 28, 35, 58, 59} == set(range(60)), "marks of a minute")
+    for module in (meinberg, erlangen, ieee1344):
+        check.that(len(module.ALLOWED) == module.LENGTH == module.LARGEST_PLACE + 1, "a length")
+    check.that(len(ieee1344.DIGITS) == 7 and len(dcf77.DIGITS) == 6, "digits that can exceed 9")
+
+
+def check_listing(check: Checks) -> None:
+    header = "at kind answer value place\n"
+    listed = book.listing_text(b"\x01" + CASE_TWO + b"\x09")
+    check.that(listed == header + "0 1 ok 536550209 0\n33 9 no 14 0\n", "listing case")
+    check.that(book.listing_text(b"") == header, "empty listing")
+    check.that(book.listing_text(bytes(65537)) == header + "0 0 no 1 0\n", "too long a book")
+    check.that(book.listing_text(bytes(65536)) == header + "0 0 no 14 0\n", "largest book")
+
+
+def check_order(check: Checks) -> None:
+    """A later UTC second has the larger stamp, equal ones the same."""
+    dice = random.Random(5)
+    stamped = []
+    for _ in range(4000):
+        reading = case_random.good_reading(dice)
+        value = stamp(reading)
+        if isinstance(value, int):
+            stamped.append(((utc_minute(reading), reading.second), value))
+    stamped.sort()
+    for (first, one), (second, two) in zip(stamped, stamped[1:]):
+        check.that((one < two) == (first < second), "stamp order at %s" % (second,))
+
+
+def written_back(op: int, told: Told, payload: bytes) -> bytes:
+    """What the op's writer makes of an accepted reading, in a buffer one byte too long."""
+    output = bytearray(FILLED * (len(payload) + 1))
+    rest = erlangen.position_part(payload) if op == 2 else b""
+    beside = 0 if told.beside is None else int(told.beside)
+    answers.WRITERS[op + 4](told.reading, beside, rest, output)
+    return bytes(output)
+
+
+def check_round_trip(check: Checks, op: int, payload: bytes, line: str) -> None:
+    """What is read writes back to the same bytes; what is written reads back the same."""
+    readers = {1: meinberg.read, 2: erlangen.read, 3: ieee1344.read, 4: dcf77.read}
+    if op in readers and line.startswith("time"):
+        told = readers[op](payload)
+        check.that(written_back(op, told, payload) == payload + FILLED, "write back " + line)
+    if op in (5, 6, 7, 8, 10):
+        words = line.split()
+        output = b"" if words[-1] == "-" else bytes.fromhex(words[-1])
+        length = int(words[1]) if words[0] == "wrote" else 0
+        check.that(output[length:] == FILLED * (len(output) - length), "untouched " + line)
+        if words[0] == "wrote" and op != 10:
+            told = readers[op - 4](output[:length])
+            beside = int.from_bytes(payload[12:14], "little")
+            same = isinstance(told, Told) and told.reading == answers.reading_of(payload)
+            check.that(same and int(told.beside or 0) == (beside if op != 7 else 0),
+                       "read back " + line)
+            if op == 6:
+                check.that(erlangen.position_part(output[:length]) == payload[15:], "part " + line)
+
+
+def codes_in(op: int, line: str) -> Iterator[int]:
+    """The refusal codes of an answer line."""
+    if op == 13:
+        for record in line.split(" | "):
+            words = record.split()
+            if len(words) == 5 and words[2] == "no":
+                yield int(words[3])
+    elif op in (11, 12):
+        for word in line.split()[1:]:
+            parts = word.split(":")[1].split(",")
+            if parts[0] == "no":
+                yield int(parts[1])
+    elif line.startswith("no "):
+        yield int(line.split()[1])
+
+
+def check_changes(check: Checks, op: int, payload: bytes, line: str) -> None:
+    """Every change is counted, and no one-byte change of a good frame is accepted."""
+    words = line.split()
+    listed = len(words) - 3
+    check.that(listed + int(words[-1]) == 255 * len(payload), "count of changes")
+    if op == 22:
+        check.that(not any(word.endswith("=time") for word in words), "a changed frame accepted")
+
+
+def check_streams(check: Checks) -> None:
+    """Runs every named stream and a random one; afterwards looks at the codes that came."""
+    seen: Dict[int, Set[int]] = {op: set() for op in CODES}
+    streams = {name: b"".join(make()) for name, make in cases.NAMED.items()}
+    streams["random"] = b"".join(case_random.make(3, 4000))
+    for name, stream in streams.items():
+        for op, payload in answers.cases_of(stream):
+            line = answers.answer_line(op, payload)
+            if line == answers.BAD:
+                continue
+            check_round_trip(check, op, payload, line)
+            if op >= 20:
+                check_changes(check, op, payload, line)
+            elif name != "random":
+                seen[op].update(codes_in(op, line))
+            else:
+                check.that(CODES[op].issuperset(codes_in(op, line)), "a strange code: " + line)
+        again = b"".join(cases.NAMED[name]()) if name in cases.NAMED else stream
+        check.that(again == stream, "%s is not deterministic" % name)
+    for op, codes in CODES.items():
+        check.that(seen[op] == codes, "codes of op %d: %s" % (op, sorted(seen[op])))
+    check.that(set().union(*seen.values()) == set(range(1, 15)), "every code of the table")
+
+
+def main() -> None:
+    check = Checks()
+    for part in (check_dates, check_frames, check_layouts, check_listing, check_order,
+                 check_streams):
+        part(check)
+    for what in check.failed[:50]:
+        print("failed: " + what)
+    if check.failed:
+        print("second: %d checks failed, %d passed" % (len(check.failed), check.passed))
+        sys.exit(1)
+    print("second: %d checks passed" % check.passed)
+
+
+if __name__ == "__main__":
+    main()

@@ -1,0 +1,123 @@
+"""The DCF77 minute: 60 or 61 marks, 0 short, 1 long, 2 missing; it names the minute after it.
+Reads and writes it from a dictionary of fields, each a list of (mark, weight)."""
+
+from typing import Union
+
+from layout import (digit_over_nine, digits_that_can_exceed, field_value, lowest_bad_place,
+                    ones_are_odd, put_field)
+from reading import (FIRST_YEAR, Answer, Reading, Refusal, Told, after_leap_minute,
+                     fields_refusal, reading_refusal, weekday)
+
+LENGTH = 60
+LARGEST_PLACE = 59
+LONG_LENGTH = 61
+LONG_LARGEST_PLACE = 60
+LARGEST_HEAD = 32767
+FIELDS = {
+    "head": [(mark, 2 ** (mark - 1)) for mark in range(1, 16)],
+    "change": [(16, 1)],
+    "summer zone": [(17, 1)],
+    "winter zone": [(18, 1)],
+    "leap": [(19, 1)],
+    "start": [(20, 1)],
+    "minute": [(21, 1), (22, 2), (23, 4), (24, 8), (25, 10), (26, 20), (27, 40)],
+    "hour": [(29, 1), (30, 2), (31, 4), (32, 8), (33, 10), (34, 20)],
+    "day": [(36, 1), (37, 2), (38, 4), (39, 8), (40, 10), (41, 20)],
+    "weekday": [(42, 1), (43, 2), (44, 4)],
+    "month": [(45, 1), (46, 2), (47, 4), (48, 8), (49, 10)],
+    "year": [(50, 1), (51, 2), (52, 4), (53, 8), (54, 10), (55, 20), (56, 40), (57, 80)],
+}
+DIGITS = digits_that_can_exceed(FIELDS[name] for name in ("minute", "hour", "day", "month", "year"))
+PARITY_GROUPS = {28: range(21, 29), 35: range(29, 36), 58: range(36, 59)}
+# (summer zone, winter zone) -> (offset in half hours, summer)
+ZONES = {(0, 1): (2, False), (1, 0): (4, True)}
+
+
+def allowed_for(length: int) -> list:
+    """What each mark may be: 0 at the start, 1 at mark 20, a gap at the end, 0 at a long 59."""
+    allowed = [frozenset((0, 1))] * length
+    allowed[0] = frozenset((0,))
+    allowed[20] = frozenset((1,))
+    if length == LONG_LENGTH:
+        allowed[59] = frozenset((0,))
+    allowed[length - 1] = frozenset((2,))
+    return allowed
+
+
+ALLOWED = {length: allowed_for(length) for length in (LENGTH, LONG_LENGTH)}
+
+
+def is_long(reading: Reading) -> bool:
+    """The leap rule: 61 marks exactly when leap is announced and this minute follows it."""
+    return bool(reading.leap) and after_leap_minute(reading)
+
+
+def read(marks: bytes) -> Answer:
+    """The reading of the named minute with the head beside it, or the lowest refusal."""
+    if len(marks) not in ALLOWED:
+        return Refusal(1)
+    place = lowest_bad_place(marks, ALLOWED[len(marks)])
+    if place is not None:
+        return Refusal(2, place)
+    if digit_over_nine(marks, DIGITS):
+        return Refusal(3)
+    if any(ones_are_odd(marks, group) for group in PARITY_GROUPS.values()):
+        return Refusal(4)
+    said = {name: field_value(marks, field) for name, field in FIELDS.items()}
+    reading = Reading(FIRST_YEAR + said["year"], said["month"], said["day"], said["hour"],
+                      said["minute"], 0, 0, False, bool(said["leap"]), bool(said["change"]), 0)
+    if fields_refusal(reading) or not 1 <= said["weekday"] <= 7:
+        return Refusal(5)
+    if said["weekday"] != weekday(reading):
+        return Refusal(6)
+    zone = ZONES.get((said["summer zone"], said["winter zone"]))
+    if zone is None:
+        return Refusal(8)
+    reading = reading._replace(offset=zone[0], summer=zone[1])
+    if is_long(reading) != (len(marks) == LONG_LENGTH):
+        return Refusal(9)
+    return Told(reading, said["head"])
+
+
+def cannot_carry(reading: Reading) -> bool:
+    return (reading.second != 0 or reading.quality != 0
+            or (reading.offset, reading.summer) not in ZONES.values())
+
+
+def said_of(reading: Reading, head: int) -> dict:
+    """The value of every field."""
+    return {
+        "head": head, "change": int(reading.change), "leap": int(reading.leap), "start": 1,
+        "summer zone": int(reading.summer), "winter zone": int(not reading.summer),
+        "minute": reading.minute, "hour": reading.hour, "day": reading.day,
+        "weekday": weekday(reading), "month": reading.month, "year": reading.year - FIRST_YEAR,
+    }
+
+
+def minute_of(said: dict, length: int) -> bytearray:
+    """A minute with these field values, the closing gap in place and the parities made even."""
+    marks = bytearray(length)
+    marks[length - 1] = 2
+    for name, value in said.items():
+        put_field(marks, FIELDS[name], value)
+    for parity, group in PARITY_GROUPS.items():
+        marks[parity] = int(ones_are_odd(marks, group))
+    return marks
+
+
+def write(reading: Reading, head: int, output: bytearray) -> Union[int, Refusal]:
+    """Writes 60 or 61 marks at the start of the output; a refusal leaves it as it was."""
+    if len(output) < LENGTH:
+        return Refusal(1)
+    if fields_refusal(reading) or not 0 <= head <= LARGEST_HEAD:
+        return Refusal(5)
+    refusal = reading_refusal(reading)
+    if refusal is not None:
+        return refusal
+    if cannot_carry(reading):
+        return Refusal(11)
+    length = LONG_LENGTH if is_long(reading) else LENGTH
+    if len(output) < length:
+        return Refusal(1)
+    output[:length] = minute_of(said_of(reading, head), length)
+    return length

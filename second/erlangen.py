@@ -1,0 +1,105 @@
+"""The Uni Erlangen (NTP) string: 68 bytes with the offset in it and 26 position bytes at 41..66.
+Reads and writes it, and hands back the position part, as document 01 draws it."""
+
+from typing import Optional, Union
+
+from layout import lowest_bad_place, text_number
+from reading import (FAILED, FIRST_YEAR, LOCKED, Answer, Reading, Refusal, Told,
+                     fields_refusal, offset_refusal, reading_refusal, second_refusal, weekday)
+
+LENGTH = 68
+LARGEST_PLACE = 67
+POSITION_START = 41
+POSITION_LENGTH = 26
+PRINTABLE = "".join(chr(code) for code in range(32, 127))
+DIGIT = "0123456789"
+# Every place with the characters it may hold; p is a position byte, other letters are fields.
+CHARACTERS = {"d": DIGIT, "m": DIGIT, "y": DIGIT, "w": DIGIT, "h": DIGIT, "n": DIGIT, "s": DIGIT,
+              "o": DIGIT, "v": "+-", "a": "# ", "c": "* ", "S": "S ", "!": "! ", "A": "A ",
+              "L": "L ", "p": PRINTABLE}
+PICTURE = "\x02dd.mm.yy; w; hh:nn:ss; voo:oo; acS!A L; " + "p" * POSITION_LENGTH + "\x03"
+ALLOWED = [frozenset(CHARACTERS.get(mark, mark).encode("ascii")) for mark in PICTURE]
+PRINTABLE_BYTES = frozenset(PRINTABLE.encode("ascii"))
+
+
+def said_offset(data: bytes) -> Optional[int]:
+    """The offset at 24..29 in half hours, or nothing: not half hours, minus zero, out of range."""
+    hours, minutes = text_number(data, 25), text_number(data, 28)
+    if minutes not in (0, 30):
+        return None
+    size = 2 * hours + minutes // 30
+    minus = data[24] == ord("-")
+    if minus and size == 0:
+        return None
+    offset = -size if minus else size
+    return None if offset_refusal(offset) else offset
+
+
+def read(data: bytes) -> Answer:
+    """The reading with coasting beside it, or the lowest refusal."""
+    if len(data) != LENGTH:
+        return Refusal(1)
+    place = lowest_bad_place(data, ALLOWED)
+    if place is not None:
+        return Refusal(2, place)
+    reading = Reading(
+        FIRST_YEAR + text_number(data, 7), text_number(data, 4), text_number(data, 1),
+        text_number(data, 14), text_number(data, 17), text_number(data, 20),
+        0, data[34] == ord("S"), data[36] == ord("A"), data[35] == ord("!"),
+        FAILED if data[32] == ord("#") else LOCKED)
+    said_weekday = text_number(data, 11, 1)
+    if fields_refusal(reading) or not 1 <= said_weekday <= 7:
+        return Refusal(5)
+    if said_weekday != weekday(reading):
+        return Refusal(6)
+    offset = said_offset(data)
+    if offset is None:
+        return Refusal(8)
+    reading = reading._replace(offset=offset)
+    if (data[38] == ord("L")) != (reading.second == 60):
+        return Refusal(9)
+    return second_refusal(reading) or Told(reading, data[33] == ord("*"))
+
+
+def position_part(data: bytes) -> bytes:
+    """Bytes 41..66 of an accepted string; empty for a refused one."""
+    if isinstance(read(data), Refusal):
+        return b""
+    return bytes(data[POSITION_START:POSITION_START + POSITION_LENGTH])
+
+
+def position_refusal(position: bytes) -> Optional[Refusal]:
+    """Code 2 with the place, within the part, of its first unprintable byte."""
+    for place, byte in enumerate(position):
+        if byte not in PRINTABLE_BYTES:
+            return Refusal(2, place)
+    return None
+
+
+def text_of(reading: Reading, coasting: bool) -> str:
+    """The 41 characters before the position part."""
+    return "\x02%02d.%02d.%02d; %d; %02d:%02d:%02d; %s%02d:%02d; %s%s%s%s%s %s; " % (
+        reading.day, reading.month, reading.year % 100, weekday(reading),
+        reading.hour, reading.minute, reading.second,
+        "-" if reading.offset < 0 else "+",
+        abs(reading.offset) // 2, 30 * (abs(reading.offset) % 2),
+        "#" if reading.quality == FAILED else " ",
+        "*" if coasting else " ",
+        "S" if reading.summer else " ",
+        "!" if reading.change else " ",
+        "A" if reading.leap else " ",
+        "L" if reading.second == 60 else " ")
+
+
+def write(reading: Reading, coasting: bool, position: bytes,
+          output: bytearray) -> Union[int, Refusal]:
+    """Writes 68 bytes at the start of the output; a refusal leaves it as it was."""
+    if len(output) < LENGTH or len(position) != POSITION_LENGTH:
+        return Refusal(1)
+    refusal = position_refusal(position) or reading_refusal(reading)
+    if refusal is not None:
+        return refusal
+    if reading.quality not in (LOCKED, FAILED):
+        return Refusal(11)
+    output[:LENGTH] = text_of(reading, coasting).encode("ascii") + position + b"\x03"
+    return LENGTH

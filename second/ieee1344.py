@@ -1,0 +1,131 @@
+"""The IEEE 1344 frame: one hundred pulses, bytes 0, 1 and 2 (position mark).
+Reads and writes it from a dictionary of fields, each a list of (pulse, weight)."""
+
+from datetime import timedelta, date
+from typing import Optional, Union
+
+from layout import (digit_over_nine, digits_that_can_exceed, field_value, lowest_bad_place,
+                    ones_are_odd, put_field)
+from reading import (FIRST_YEAR, Answer, Reading, Refusal, Told, fields_refusal, offset_refusal,
+                     reading_refusal, second_of_day, second_refusal)
+
+LENGTH = 100
+LARGEST_PLACE = 99
+MARKS = (0, 9, 19, 29, 39, 49, 59, 69, 79, 89, 99)
+FIELDS = {
+    "second": [(1, 1), (2, 2), (3, 4), (4, 8), (6, 10), (7, 20), (8, 40)],
+    "minute": [(10, 1), (11, 2), (12, 4), (13, 8), (15, 10), (16, 20), (17, 40)],
+    "hour": [(20, 1), (21, 2), (22, 4), (23, 8), (25, 10), (26, 20)],
+    "day of year": [(30, 1), (31, 2), (32, 4), (33, 8), (35, 10), (36, 20), (37, 40), (38, 80),
+                    (40, 100), (41, 200)],
+    "year": [(50, 1), (51, 2), (52, 4), (53, 8), (55, 10), (56, 20), (57, 40), (58, 80)],
+    "leap pending": [(60, 1)],
+    "deletion": [(61, 1)],
+    "change pending": [(62, 1)],
+    "summer": [(63, 1)],
+    "minus": [(64, 1)],
+    "offset hours": [(65, 1), (66, 2), (67, 4), (68, 8)],
+    "offset half hour": [(70, 1)],
+    "quality": [(71, 1), (72, 2), (73, 4), (74, 8)],
+    "parity": [(75, 1)],
+    "second of day": [(80, 1), (81, 2), (82, 4), (83, 8), (84, 16), (85, 32), (86, 64), (87, 128),
+                      (88, 256), (90, 512), (91, 1024), (92, 2048), (93, 4096), (94, 8192),
+                      (95, 16384), (96, 32768), (97, 65536)],
+}
+DIGITS = digits_that_can_exceed(
+    FIELDS[name] for name in ("second", "minute", "hour", "day of year", "year"))
+PARITY_PLACES = [place for place in range(1, 76) if place not in MARKS]
+DATA_PLACES = frozenset(pulse for field in FIELDS.values() for pulse, _ in field)
+
+
+def allowed_at(place: int) -> frozenset:
+    if place in MARKS:
+        return frozenset((2,))
+    return frozenset((0, 1)) if place in DATA_PLACES else frozenset((0,))
+
+
+ALLOWED = [allowed_at(place) for place in range(LENGTH)]
+
+
+def date_of_day(year: int, day_of_year: int) -> Optional[date]:
+    """The date of a day of the year, 1 being 1 January; nothing if it falls in another year."""
+    day = date(year, 1, 1) + timedelta(days=day_of_year - 1)
+    return day if day.year == year else None
+
+
+def said_added(pulses: bytes) -> Optional[int]:
+    """The half hours to add to local time to reach UTC; nothing for minus zero."""
+    size = (2 * field_value(pulses, FIELDS["offset hours"])
+            + field_value(pulses, FIELDS["offset half hour"]))
+    if not field_value(pulses, FIELDS["minus"]):
+        return size
+    return -size if size else None
+
+
+def read(pulses: bytes) -> Answer:
+    """The reading, or the lowest refusal."""
+    if len(pulses) != LENGTH:
+        return Refusal(1)
+    place = lowest_bad_place(pulses, ALLOWED)
+    if place is not None:
+        return Refusal(2, place)
+    if digit_over_nine(pulses, DIGITS):
+        return Refusal(3)
+    if ones_are_odd(pulses, PARITY_PLACES):
+        return Refusal(4)
+    said = {name: field_value(pulses, field) for name, field in FIELDS.items()}
+    day = date_of_day(FIRST_YEAR + said["year"], said["day of year"])
+    if day is None:
+        return Refusal(5)
+    reading = Reading(day.year, day.month, day.day, said["hour"], said["minute"], said["second"],
+                      0, bool(said["summer"]), bool(said["leap pending"]),
+                      bool(said["change pending"]), said["quality"])
+    if fields_refusal(reading):
+        return Refusal(5)
+    if said["second of day"] != second_of_day(reading.hour, reading.minute, reading.second):
+        return Refusal(7)
+    added = said_added(pulses)
+    if added is None or offset_refusal(-added):
+        return Refusal(8)
+    reading = reading._replace(offset=-added)
+    if second_refusal(reading):
+        return Refusal(9)
+    return Refusal(10) if said["deletion"] else Told(reading)
+
+
+def said_of(reading: Reading) -> dict:
+    """The value of every field but the parity."""
+    added = -reading.offset
+    day = date(reading.year, reading.month, reading.day)
+    return {
+        "second": reading.second, "minute": reading.minute, "hour": reading.hour,
+        "day of year": (day - date(reading.year, 1, 1)).days + 1,
+        "year": reading.year - FIRST_YEAR,
+        "leap pending": int(reading.leap), "change pending": int(reading.change),
+        "summer": int(reading.summer), "minus": 1 if added < 0 else 0,
+        "offset hours": abs(added) // 2, "offset half hour": abs(added) % 2,
+        "quality": reading.quality,
+        "second of day": second_of_day(reading.hour, reading.minute, reading.second),
+    }
+
+
+def frame_of(said: dict) -> bytearray:
+    """A frame with these field values, marks in place and the parity made even."""
+    pulses = bytearray(LENGTH)
+    for place in MARKS:
+        pulses[place] = 2
+    for name, value in said.items():
+        put_field(pulses, FIELDS[name], value)
+    put_field(pulses, FIELDS["parity"], int(ones_are_odd(pulses, PARITY_PLACES)))
+    return pulses
+
+
+def write(reading: Reading, output: bytearray) -> Union[int, Refusal]:
+    """Writes 100 pulses at the start of the output; a refusal leaves it as it was."""
+    if len(output) < LENGTH:
+        return Refusal(1)
+    refusal = reading_refusal(reading)
+    if refusal is not None:
+        return refusal
+    output[:LENGTH] = frame_of(said_of(reading))
+    return LENGTH

@@ -1,0 +1,60 @@
+"""Small tools shared by the formats: lowest bad place, text numbers, and pulse fields.
+A pulse field is a list of (pulse, weight); its value is the sum of the weights of its ones."""
+
+from typing import FrozenSet, Iterable, List, Optional, Sequence, Tuple
+
+Field = Sequence[Tuple[int, int]]
+
+
+def lowest_bad_place(data: bytes, allowed: Sequence[FrozenSet[int]]) -> Optional[int]:
+    """The first place whose byte is not among those allowed there; lengths must agree."""
+    for place, good in enumerate(allowed):
+        if data[place] not in good:
+            return place
+    return None
+
+
+def text_number(data: bytes, start: int, length: int = 2) -> int:
+    """The decimal number at a place of a string whose digits have been checked."""
+    return int(data[start:start + length])
+
+
+def field_value(pulses: bytes, field: Field) -> int:
+    total = 0
+    for pulse, weight in field:
+        if pulses[pulse]:
+            total += weight
+    return total
+
+
+def put_field(pulses: bytearray, field: Field, value: int) -> None:
+    """Sets the field's pulses: the largest weight that still fits, then the next, down to 1.
+    For weights 1 2 4 8 10 20 .. this is BCD, for powers of two it is binary."""
+    for pulse, weight in sorted(field, key=lambda entry: -entry[1]):
+        pulses[pulse] = 1 if value >= weight else 0
+        if value >= weight:
+            value -= weight
+
+
+def decimal_digits(field: Field) -> List[Tuple[int, Field]]:
+    """Splits a BCD field into its digits: (unit, the field's part with 1 2 4 8 times the unit)."""
+    digits = []
+    for unit in (1, 10, 100):
+        part = [entry for entry in field if unit <= entry[1] <= 8 * unit]
+        if part:
+            digits.append((unit, part))
+    return digits
+
+
+def digits_that_can_exceed(fields: Iterable[Field]) -> List[Tuple[int, Field]]:
+    """The digits, of BCD fields, that have all four weights: (largest good value, part)."""
+    return [(9 * unit, part) for field in fields for unit, part in decimal_digits(field)
+            if len(part) == 4]
+
+
+def digit_over_nine(pulses: bytes, digits: Sequence[Tuple[int, Field]]) -> bool:
+    return any(field_value(pulses, part) > largest for largest, part in digits)
+
+
+def ones_are_odd(pulses: bytes, places: Iterable[int]) -> bool:
+    return sum(pulses[place] for place in places) % 2 == 1

@@ -1,0 +1,73 @@
+"""The Meinberg standard string: 32 bytes, STX D:dd.mm.yy;T:w;U:hh.mm.ss;uvxy ETX.
+Reads and writes it as document 01 draws it."""
+
+from typing import Union
+
+from layout import lowest_bad_place, text_number
+from reading import (FAILED, FIRST_YEAR, LOCKED, Answer, Reading, Refusal, Told,
+                     fields_refusal, reading_refusal, second_refusal, weekday)
+
+LENGTH = 32
+LARGEST_PLACE = 31
+DIGIT = "0123456789"
+# Every place with the characters it may hold; lower-case letters stand for fields.
+CHARACTERS = {"d": DIGIT, "m": DIGIT, "y": DIGIT, "w": DIGIT, "h": DIGIT, "i": DIGIT, "s": DIGIT,
+              "q": "# ", "c": "* ", "z": "U S", "a": "!A "}
+PICTURE = "\x02D:dd.mm.yy;T:w;U:hh.ii.ss;qcza\x03"
+ALLOWED = [frozenset(CHARACTERS.get(mark, mark).encode("ascii")) for mark in PICTURE]
+# Zone letter -> (offset in half hours, summer)
+ZONES = {"U": (0, False), " ": (2, False), "S": (4, True)}
+# Announcement letter -> (leap, change)
+ANNOUNCEMENTS = {"!": (False, True), "A": (True, False), " ": (False, False)}
+
+
+def read(data: bytes) -> Answer:
+    """The reading with coasting beside it, or the lowest refusal."""
+    if len(data) != LENGTH:
+        return Refusal(1)
+    place = lowest_bad_place(data, ALLOWED)
+    if place is not None:
+        return Refusal(2, place)
+    offset, summer = ZONES[chr(data[29])]
+    leap, change = ANNOUNCEMENTS[chr(data[30])]
+    reading = Reading(
+        FIRST_YEAR + text_number(data, 9), text_number(data, 6), text_number(data, 3),
+        text_number(data, 18), text_number(data, 21), text_number(data, 24),
+        offset, summer, leap, change, FAILED if data[27] == ord("#") else LOCKED)
+    said_weekday = text_number(data, 14, 1)
+    if fields_refusal(reading) or not 1 <= said_weekday <= 7:
+        return Refusal(5)
+    if said_weekday != weekday(reading):
+        return Refusal(6)
+    return second_refusal(reading) or Told(reading, data[28] == ord("*"))
+
+
+def cannot_carry(reading: Reading) -> bool:
+    return ((reading.offset, reading.summer) not in ZONES.values()
+            or (reading.leap and reading.change)
+            or reading.quality not in (LOCKED, FAILED))
+
+
+def key_of(table: dict, value: tuple) -> str:
+    """The letter a table gives this meaning."""
+    return next(letter for letter, meaning in table.items() if meaning == value)
+
+
+def write(reading: Reading, coasting: bool, output: bytearray) -> Union[int, Refusal]:
+    """Writes 32 bytes at the start of the output; a refusal leaves it as it was."""
+    if len(output) < LENGTH:
+        return Refusal(1)
+    refusal = reading_refusal(reading)
+    if refusal is not None:
+        return refusal
+    if cannot_carry(reading):
+        return Refusal(11)
+    text = "\x02D:%02d.%02d.%02d;T:%d;U:%02d.%02d.%02d;%s%s%s%s\x03" % (
+        reading.day, reading.month, reading.year % 100, weekday(reading),
+        reading.hour, reading.minute, reading.second,
+        "#" if reading.quality == FAILED else " ",
+        "*" if coasting else " ",
+        key_of(ZONES, (reading.offset, reading.summer)),
+        key_of(ANNOUNCEMENTS, (reading.leap, reading.change)))
+    output[:LENGTH] = text.encode("ascii")
+    return LENGTH
