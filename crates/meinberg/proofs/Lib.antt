@@ -1,0 +1,10 @@
+pub mod ZoneLaws
+pub mod FieldLaws
+pub mod ReadLaws
+pub mod WriteLaws
+pub mod WrittenLaws
+pub mod SpelledLaws
+pub mod RoundTrip
+pub mod Worked
+pub mod StandIns
+pub mod Unique

@@ -1,0 +1,42 @@
+// The Meinberg string: 32 bytes, STX `D:dd.mm.yy;T:w;U:hh.mm.ss;uvxy` ETX. Every public function takes any value and
+// answers as the definitions of specs/ say.
+use reading::Reading;
+use reading::Written;
+use strings::Answer;
+ghost use mathlib.Core.Path.{_≡_};
+ghost use lib.ListN.{length};
+ghost use Rattle.reading.specs.Years.{base};
+ghost use Rattle.reading.specs.Writing.{writtenOf, filled};
+ghost use Rattle.meinberg.specs.Layout.{textLength};
+ghost use Rattle.meinberg.specs.Meaning.{readMeinberg};
+ghost use Rattle.meinberg.specs.Writing.{bytesOf, writeFault};
+
+mod layout;
+mod read;
+mod write;
+mod zones;
+
+// The format; it has no values of its own.
+pub struct Meinberg {}
+
+impl Meinberg {
+    pub const LENGTH: usize = layout::LENGTH;
+
+    // The largest place.
+    pub const LAST: usize = layout::LENGTH - 1;
+
+    // The time that a string says, with its coasting mark, or why it says none.
+    pub fn read(s: &[u8]) -> Answer
+        ensures { λ a. ⌜ a ≡ readMeinberg base (now (s .entry)) ⌝ }
+    {
+        read::answer_to(s)
+    }
+
+    // Writes the string of a reading to the start of `out`; a refusal leaves `out` as it was.
+    pub fn write(r: Reading, coasting: bool, out: &mut [u8]) -> Written
+        ensures { λ w. ⌜ w ≡ writtenOf (writeFault base r (length (now (out .entry)))) textLength ⌝ }
+        ensures { λ w. ⌜ now (out .exit) ≡ filled (writeFault base r (length (now (out .entry)))) (bytesOf r coasting) (now (out .entry)) ⌝ }
+    {
+        write::into(r, coasting, out)
+    }
+}

@@ -1,0 +1,94 @@
+// Reading a Meinberg string: what it says, field by field, and its first fault.
+use super::layout;
+use super::layout::LENGTH;
+use super::layout::allowed_places;
+use super::layout::field_places;
+use super::zones::offset_of;
+use super::zones::summer_of;
+use reading::Fault;
+use reading::Reading;
+use reading::Verdict;
+use reading::years::year_of;
+use strings::Answer;
+use strings::fault_of;
+use strings::told;
+use wire::digits::one_digit;
+use wire::digits::two_digits;
+ghost use mathlib.Core.Path.{_≡_};
+ghost use lib.ListN.{getD};
+ghost use Rattle.reading.specs.Years.{base};
+ghost use Rattle.meinberg.specs.Meaning.{qualityOf, coastingIn, meaning, faultIn, readMeinberg};
+
+// Past the end it is 0, which no layout allows.
+fn byte_at(s: &[u8], at: usize) -> u8
+    ensures { λ r. ⌜ r ≡ getD (now (s .entry)) at 0 ⌝ }
+{
+    if at < s.len() {
+        return s[at];
+    }
+    0
+}
+
+fn quality_of(failure: u8) -> u8
+    ensures { λ r. ⌜ r ≡ qualityOf failure ⌝ }
+{
+    if failure == b'#' {
+        return 15;
+    }
+    0
+}
+
+fn coasting_in(s: &[u8]) -> bool
+    ensures { λ r. ⌜ r ≡ coastingIn (now (s .entry)) ⌝ }
+{
+    byte_at(s, layout::COASTING) == b'*'
+}
+
+// Any bytes have a meaning; it is told only of a string without a fault.
+fn meaning(s: &[u8]) -> Reading
+    ensures { λ r. ⌜ r ≡ meaning base (now (s .entry)) ⌝ }
+{
+    let zone = byte_at(s, layout::ZONE);
+    let announced = byte_at(s, layout::ANNOUNCEMENT);
+    let offset = offset_of(zone);
+    Reading {
+        year: year_of(two_digits(s, layout::YEAR)),
+        month: two_digits(s, layout::MONTH),
+        day: two_digits(s, layout::DAY),
+        hour: two_digits(s, layout::HOUR),
+        minute: two_digits(s, layout::MINUTE),
+        second: two_digits(s, layout::SECOND),
+        offset,
+        summer: summer_of(zone),
+        leap: announced == b'A',
+        change: announced == b'!',
+        quality: quality_of(byte_at(s, layout::FAILURE)),
+    }
+}
+
+fn fault_in(s: &[u8], r: Reading) -> Verdict
+    requires { ⌜ r ≡ meaning base (now s) ⌝ }
+    ensures { λ v. ⌜ v ≡ faultIn base (now (s .entry)) ⌝ }
+{
+    if s.len() != LENGTH {
+        return Verdict::Bad(Fault::Length);
+    }
+    let allowed = allowed_places(s);
+    if allowed < LENGTH {
+        return Verdict::Bad(Fault::Byte(allowed));
+    }
+    fault_of(
+        r,
+        one_digit(s, layout::WEEKDAY),
+        false,
+        false,
+        field_places(),
+    )
+}
+
+pub fn answer_to(s: &[u8]) -> Answer
+    ensures { λ a. ⌜ a ≡ readMeinberg base (now (s .entry)) ⌝ }
+{
+    let r = meaning(s);
+    told(fault_in(s, r), r, coasting_in(s))
+}
