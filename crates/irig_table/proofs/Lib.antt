@@ -1,3 +1,4 @@
 pub mod TableLaws
+pub mod PaperLaws
 pub mod Unique
 pub mod WorkedFrame

@@ -1,14 +1,15 @@
 -- What the table of an IEEE 1344 frame is, each by one test that antt computes over its hundred pulses.
-use mathlib.Core.Bool.{Bool, cond, not, _||_}
+use mathlib.Core.Bool.{Bool, cond, not}
 use mathlib.Core.List.{[], _∷_}
 use mathlib.Core.Path.{_≡_, refl}
-use Prim.Native.Nat.{ℕ, _%_, _<_}
+use Prim.Native.Nat.{ℕ, _<_}
 use lib.Dec.{T, eqb, eqb→eq}
 use lib.ListN.{length, getD}
 use Rattle.laws.proofs.Bools.{where-so, then, holds}
 use Rattle.laws.proofs.Tested.{below, at}
 use Rattle.pulses.specs.Row.{groups, groupOf, weightOf, sound, doubling, pulsesIn, upTo}
 use Rattle.irig_table.specs.Table.{framePulses, parity, mark}
+use Rattle.irig_table.specs.Paper.{markDue}
 use borrow.Author.Tests.{eq-eqb}
 
 pub frame-length : length framePulses ≡ 100
@@ -26,10 +27,6 @@ pub frame-widths :
     ≡ 19 ∷ 11 ∷ 0 ∷ 4 ∷ 3 ∷ 4 ∷ 3 ∷ 4 ∷ 2 ∷ 4 ∷ 4 ∷ 2 ∷ 4 ∷ 4 ∷ 1 ∷ 1 ∷ 1 ∷ 1 ∷ 1 ∷ 4 ∷ 1 ∷ 4 ∷ 1 ∷ 17 ∷ 0 ∷ 0 ∷ 0 ∷ 0 ∷ 0 ∷ 0 ∷ 0 ∷ 0 ∷ []
 unfolding framePulses upTo pulsesIn groupOf
 frame-widths = refl
-
--- a mark is due at 0, 9, 19, 29, .. 99
-abbrev pub markDue : ℕ → Bool
-markDue i = eqb i 0 || eqb (i % 10) 9
 
 -- marks stand where they are due, and nowhere else
 pub frame-marks : T (below (λ i. let m = eqb (getD framePulses i 0) mark in cond (markDue i) m (not m)) 100)

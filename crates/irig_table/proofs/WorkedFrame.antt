@@ -7,20 +7,20 @@ use Prim.Native.Nat.{ℕ, _%_}
 use lib.Dec.{eqb}
 use Rattle.pulses.specs.Row.{groupOf, weightOf, pulseOf, pulseFor, row, upTo, onesFrom, shareOf, sumOf}
 use Rattle.irig_table.specs.Table.{framePulses}
-use Rattle.irig_table.proofs.TableLaws.{markDue}
+use Rattle.irig_table.specs.Paper.{markDue}
 
 -- the value of each group, day 60 of the year and second 45296 of the day among them
-pub values : List ℕ
+unfoldable pub values : List ℕ
 values =
     0 ∷ 0 ∷ 0 ∷ 6 ∷ 5 ∷ 4 ∷ 3 ∷ 2 ∷ 1 ∷ 0 ∷ 6 ∷ 0 ∷ 4 ∷ 2 ∷ 0 ∷ 0 ∷ 0 ∷ 0 ∷ 1 ∷ 1 ∷ 0 ∷ 0 ∷ 1 ∷ 45296
     ∷ 0 ∷ 0 ∷ 0 ∷ 0 ∷ 0 ∷ 0 ∷ 0 ∷ 0 ∷ []
 
 -- the places of the ones
-pub ones : List ℕ
+unfoldable pub ones : List ℕ
 ones =
     2 ∷ 3 ∷ 6 ∷ 8 ∷ 12 ∷ 15 ∷ 16 ∷ 21 ∷ 25 ∷ 36 ∷ 37 ∷ 52 ∷ 56 ∷ 64 ∷ 65 ∷ 75 ∷ 84 ∷ 85 ∷ 86 ∷ 87 ∷ 93 ∷ 94 ∷ 96 ∷ []
 
-pub among : ℕ → List ℕ → Bool
+unfoldable pub among : ℕ → List ℕ → Bool
 among i [] = false
 among i (p ∷ l) = eqb i p || among i l
 

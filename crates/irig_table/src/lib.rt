@@ -1,13 +1,30 @@
 // The table of pulses of an IEEE 1344 frame, and the row of pulses that it drives.
 ghost use mathlib.Core.Path.{_≡_};
+ghost use Rattle.pulses.specs.Outline.{outlineOf};
 ghost use Rattle.pulses.specs.Row.{goodPulses, sumsOf, fitsIn, laid};
+ghost use Prim.Native.Nat.{_<_, _≤_};
+ghost use lib.ListN.{getD};
 ghost use Rattle.irig_table.specs.Table.{framePulses};
+ghost use Rattle.irig_table.specs.Paper.{fieldOf, factorOf, pulseAt};
+
+// What a pulse stands for: one of the paper's fields, and how much it weighs in it.
+pub struct Pulse {
+    pub field: u8,
+    pub weight: u32,
+}
 
 // How many pulses of a frame are good, from the start.
 pub fn good_pulses(frame: &[u8]) -> usize
     ensures { λ r. ⌜ r ≡ goodPulses framePulses (now (frame .entry)) ⌝ }
 {
     pulses::good_pulses(&PULSES, frame)
+}
+
+// Whether a frame has its outline: marks exactly where due, and 0 or 1 elsewhere.
+pub fn outlined(frame: &[u8]) -> bool
+    ensures { λ r. ⌜ r ≡ outlineOf framePulses (now (frame .entry)) ⌝ }
+{
+    pulses::outline::outlined(&PULSES, frame)
 }
 
 // What each group of a frame says.
@@ -24,6 +41,77 @@ pub fn lay(out: &mut [u8], values: [u32; 32]) -> bool
 {
     pulses::lay(out, &PULSES, values)
 }
+
+// Field and weight of the pulse at a place, as the paper's table has them; beyond the frame, a pulse that is always 0.
+pub fn pulse_at(place: usize) -> Pulse
+    ensures { λ r. ⌜ r ≡ pulseAt place ⌝ }
+{
+    let entry = entry_at(place);
+    let group = (entry / UNIT % 32) as usize;
+    Pulse {
+        field: field_of(group),
+        weight: factor_of(group) * (entry % UNIT),
+    }
+}
+
+fn entry_at(place: usize) -> u32
+    ensures { λ r. ⌜ r ≡ getD framePulses place 0 ⌝ }
+{
+    if 99 < place {
+        return ZERO;
+    }
+    PULSES[place]
+}
+
+fn field_of(group: usize) -> u8
+    ensures { λ r. ⌜ r ≡ fieldOf group ⌝ }
+{
+    if 23 < group {
+        return 0;
+    }
+    FIELDS[group]
+}
+
+fn factor_of(group: usize) -> u32
+    ensures { λ r. ⌜ r ≡ factorOf group ⌝ }
+    ensures { λ r. ⌜ r ≤ 100 ⌝ }
+{
+    if 13 < group {
+        return 1;
+    }
+    FACTORS[group]
+}
+
+// the field of each group
+const FIELDS: [u8; 24] = [
+    0,
+    1,
+    0,
+    2,
+    2,
+    3,
+    3,
+    4,
+    4,
+    5,
+    5,
+    5,
+    6,
+    6,
+    7,
+    8,
+    9,
+    10,
+    11,
+    12,
+    13,
+    14,
+    15,
+    16,
+];
+
+// what the weights of a group of decimal digits are to be multiplied by
+const FACTORS: [u32; 14] = [1, 1, 1, 1, 10, 1, 10, 1, 10, 1, 10, 100, 1, 10];
 
 const UNIT: u32 = 1048576;
 

@@ -1,0 +1,86 @@
+-- The two lengths: 61 marks exactly by the leap rule, and how many bytes the writer asks for.
+use mathlib.Core.Bool.{Bool, true, false, _&&_, _||_}
+use mathlib.Core.List.{List}
+use mathlib.Core.Path.{_≡_, refl, sym, ap, _∙_}
+use Prim.Native.Nat.{ℕ, _<_, _≤_}
+use native.Mathlib.Omega.{arith}
+use borrow.Author.Tests.{lt-ltb, le-ltb}
+use lib.Dec.{eqb}
+use lib.ListN.{length}
+use Rattle.reading.specs.declared.Reading.{Reading}
+use Rattle.reading.specs.declared.Fault.{Fault}
+use Rattle.reading.specs.declared.Fault.the-variants.{Length}
+use Rattle.reading.specs.declared.Verdict.the-variants.{Good, Bad}
+use Rattle.reading.specs.Universal.{utcOf}
+use Rattle.reading.specs.Leap.{afterLeap}
+use Rattle.reading.specs.Checks.{checkedOf}
+use Rattle.reading.proofs.CheckLaws.{checked-is, clash}
+use Rattle.reading.proofs.UtcLaws.{Base, universal}
+use Rattle.reading.proofs.LeapLaws.{first-after-leap}
+use Rattle.dcf77.specs.declared.Answer.the-variants.{Time}
+use Rattle.dcf77.specs.Forms.{shortLength, longLength, lengthOf, dueLong}
+use Rattle.dcf77.specs.Reader.{readDcf77}
+use Rattle.dcf77.specs.Writer.{carryFault, isGood, needed, roomFault, writeFault}
+use Rattle.dcf77.proofs.WriteLaws.{length-bytes}
+use Rattle.dcf77.proofs.RoundTrip.{read-bytes}
+
+-- ---- the length of what is read
+
+length-of : (b : Bool) → (lengthOf b ≡ longLength → b ≡ true) × (b ≡ true → lengthOf b ≡ longLength)
+unfolding lengthOf
+length-of true = (λ e. refl, λ e. refl)
+length-of false = (λ e. absurd (omega arith), λ e. let z : _≡_ {A = ℕ} 0 1 = cc in clash z)
+
+module _ (base : ℕ) (s : List ℕ) (r : Reading) (h : ℕ) (e : readDcf77 base s ≡ Time r h) where
+  length-due : length s ≡ lengthOf (dueLong r)
+  length-due = sym (ap length (read-bytes base s r h e .1)) ∙ length-bytes r h
+
+  -- 61 marks exactly where the rule asks for them
+  pub long-exactly : (length s ≡ longLength → dueLong r ≡ true) × (dueLong r ≡ true → length s ≡ longLength)
+  long-exactly = (λ k. length-of (dueLong r) .0 (sym length-due ∙ k), λ k. length-due ∙ length-of (dueLong r) .1 k)
+
+  -- and 60 elsewhere: where no leap second is announced
+  pub unannounced-short : r .leap ≡ false → length s ≡ shortLength
+  unfolding dueLong lengthOf
+  unannounced-short k = length-due ∙ rw k
+
+  and-false : (b : Bool) → (b && false) ≡ false
+  and-false true = refl
+  and-false false = refl
+
+  -- and where one is, but at another minute
+  pub elsewhere-short : afterLeap (utcOf r) ≡ false → length s ≡ shortLength
+  unfolding dueLong lengthOf
+  elsewhere-short k = length-due ∙ rw (k, and-false (r .leap))
+
+-- "leap is announced and the named minute is 00:00 UTC of 1 January or 1 July"
+pub due-named : (base : ℕ) (r : Reading) → Base base → checkedOf base r ≡ Good
+    → dueLong r
+    ≡ (r .leap && (eqb (utcOf r .minute) 0 && (eqb (utcOf r .date .day) 1 && (eqb (utcOf r .date .month) 1 || eqb (utcOf r .date .month) 7))))
+unfolding dueLong afterLeap
+due-named base r b e = rw (first-after-leap (utcOf r .date) (universal base r b (checked-is base r e) .real))
+
+-- ---- the room that the writer asks for
+
+at-least : (b : Bool) → shortLength ≤ lengthOf b
+unfolding lengthOf
+at-least true = omega arith
+at-least false = omega arith
+
+module _ (base : ℕ) (r : Reading) (h : ℕ) where
+  -- fewer than 60 bytes are too few for anything
+  pub too-few-bytes : (room : ℕ) → room < shortLength → writeFault base r h room ≡ Bad Length
+  unfolding writeFault roomFault needed
+  too-few-bytes room k =
+      let n = lengthOf (isGood (carryFault base r h) && dueLong r) in
+      rw (lt-ltb room n (omega (arith, at-least (isGood (carryFault base r h) && dueLong r))))
+
+  -- 60 bytes are enough for a refusal of another code
+  pub own-code : (room : ℕ) (x : Fault) → carryFault base r h ≡ Bad x → shortLength ≤ room → writeFault base r h room ≡ Bad x
+  unfolding writeFault roomFault needed lengthOf
+  own-code room x e k = rw (e, le-ltb room shortLength k)
+
+  -- and too few for a long minute that is accepted
+  pub long-needs-all : carryFault base r h ≡ Good → dueLong r ≡ true → writeFault base r h shortLength ≡ Bad Length
+  unfolding writeFault roomFault needed lengthOf
+  long-needs-all e k = rw (e, k)

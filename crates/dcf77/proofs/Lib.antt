@@ -1,0 +1,13 @@
+pub mod WriteLaws
+pub mod ParityLaws
+pub mod SoundLaws
+pub mod ReadLaws
+pub mod ValueBounds
+pub mod WrittenBack
+pub mod ReadBack
+pub mod RoundTrip
+pub mod LengthLaws
+pub mod MarkLaws
+pub mod StandIns
+pub mod Worked
+pub mod Unique

@@ -1,0 +1,111 @@
+-- `dcf77::reader::reading_of` meets its contract. Assumes nothing.
+use borrow.Author.Needs.{needs}
+use Rattle.dcf77.specs.Reader.{readingOf}
+use native.Mathlib.Omega.{arith}
+use Rattle.dcf77_table.proofs.ValueLaws.{digit-small}
+use Rattle.dcf77.proofs.reader.reading_of.Statement.{statement}
+use Rattle.dcf77.proofs.reader.reading_of.Tie as tie
+
+array-read-summer : tie.Need-array-read-summer
+array-read-summer c = search needs
+
+zone-of-requires : tie.Need-zone-of-requires
+zone-of-requires c κs = search needs
+
+array-read-two-digits : tie.Need-array-read-two-digits
+array-read-two-digits c = search needs
+
+array-read-two-digits-2 : tie.Need-array-read-two-digits-2
+array-read-two-digits-2 c = search needs
+
+two-digits-requires : tie.Need-two-digits-requires
+two-digits-requires c κs = (digit-small (c .before .pre) 19 (omega arith) (omega arith), digit-small (c .before .pre) 18 (omega arith) (omega arith))
+
+year-of-requires : tie.Need-year-of-requires
+year-of-requires c κs = search needs
+
+array-read-two-digits-3 : tie.Need-array-read-two-digits-3
+array-read-two-digits-3 c = search needs
+
+array-read-two-digits-4 : tie.Need-array-read-two-digits-4
+array-read-two-digits-4 c = search needs
+
+two-digits-requires-2 : tie.Need-two-digits-requires-2
+two-digits-requires-2 c κs = (digit-small (c .before .before .before .pre) 17 (omega arith) (omega arith), digit-small (c .before .before .before .pre) 16 (omega arith) (omega arith))
+
+array-read-two-digits-5 : tie.Need-array-read-two-digits-5
+array-read-two-digits-5 c = search needs
+
+array-read-two-digits-6 : tie.Need-array-read-two-digits-6
+array-read-two-digits-6 c = search needs
+
+two-digits-requires-3 : tie.Need-two-digits-requires-3
+two-digits-requires-3 c κs = (digit-small (c .before .before .before .before .pre) 14 (omega arith) (omega arith), digit-small (c .before .before .before .before .pre) 13 (omega arith) (omega arith))
+
+array-read-two-digits-7 : tie.Need-array-read-two-digits-7
+array-read-two-digits-7 c = search needs
+
+array-read-two-digits-8 : tie.Need-array-read-two-digits-8
+array-read-two-digits-8 c = search needs
+
+two-digits-requires-4 : tie.Need-two-digits-requires-4
+two-digits-requires-4 c κs = (digit-small (c .before .before .before .before .before .pre) 11 (omega arith) (omega arith), digit-small (c .before .before .before .before .before .pre) 10 (omega arith) (omega arith))
+
+array-read-two-digits-9 : tie.Need-array-read-two-digits-9
+array-read-two-digits-9 c = search needs
+
+array-read-two-digits-10 : tie.Need-array-read-two-digits-10
+array-read-two-digits-10 c = search needs
+
+two-digits-requires-5 : tie.Need-two-digits-requires-5
+two-digits-requires-5 c κs = (digit-small (c .before .before .before .before .before .before .pre) 8 (omega arith) (omega arith), digit-small (c .before .before .before .before .before .before .pre) 7 (omega arith) (omega arith))
+
+offset-in-requires : tie.Need-offset-in-requires
+offset-in-requires c κs = search needs
+
+array-read-t43 : tie.Need-array-read-t43
+array-read-t43 c = search needs
+
+array-read-t47 : tie.Need-array-read-t47
+array-read-t47 c = search needs
+
+returns : tie.Need-returns
+unfolding readingOf
+returns c =
+    rw (
+      c .before .before .before .before .before .year-of .ensures,
+      c .before .before .before .before .before .before .two-digits .ensures,
+      c .before .before .before .before .two-digits2 .ensures,
+      c .before .before .before .two-digits3 .ensures,
+      c .before .before .two-digits4 .ensures,
+      c .before .two-digits5 .ensures,
+      c .offset-in .ensures,
+      c .before .before .before .before .before .before .before .zone-of .ensures,
+    )
+
+pub reading-of-spec : {M : Type 1} → statement M
+reading-of-spec =
+    tie.close
+    (tie.spec
+    array-read-summer
+    zone-of-requires
+    array-read-two-digits
+    array-read-two-digits-2
+    two-digits-requires
+    year-of-requires
+    array-read-two-digits-3
+    array-read-two-digits-4
+    two-digits-requires-2
+    array-read-two-digits-5
+    array-read-two-digits-6
+    two-digits-requires-3
+    array-read-two-digits-7
+    array-read-two-digits-8
+    two-digits-requires-4
+    array-read-two-digits-9
+    array-read-two-digits-10
+    two-digits-requires-5
+    offset-in-requires
+    array-read-t43
+    array-read-t47
+    returns)

@@ -1,0 +1,4 @@
+pub mod Zones
+pub mod Forms
+pub mod Reader
+pub mod Writer

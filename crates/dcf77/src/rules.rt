@@ -1,0 +1,92 @@
+// What reader and writer share: the two zones, the form that is due, and the order of faults.
+use super::Dcf77;
+use reading::Fault;
+use reading::LocalMinusUtc;
+use reading::Reading;
+use reading::Verdict;
+use reading::leap::after_leap;
+use reading::universal::utc_of;
+ghost use mathlib.Core.Path.{_≡_};
+ghost use Rattle.reading.specs.Faults.{first};
+ghost use Rattle.reading.specs.Writing.{andThen};
+ghost use Rattle.dcf77.specs.Zones.{offsetIn, zoneOf};
+ghost use Rattle.dcf77.specs.Forms.{lengthOf, dueLong};
+
+// Where each field begins, and where its parity mark stands.
+pub(super) mod places {
+    pub const ZONE: usize = 17;
+
+    pub const MINUTE: usize = 21;
+
+    pub const MINUTE_PARITY: usize = 28;
+
+    pub const HOUR: usize = 29;
+
+    pub const HOUR_PARITY: usize = 35;
+
+    pub const DAY: usize = 36;
+
+    pub const WEEKDAY: usize = 42;
+
+    pub const MONTH: usize = 45;
+
+    pub const YEAR: usize = 50;
+
+    pub const DATE_PARITY: usize = 58;
+}
+
+const WINTER: i8 = 2;
+
+const SUMMER: i8 = 4;
+
+pub(super) fn offset_in(summer: bool) -> LocalMinusUtc
+    ensures { λ r. ⌜ r ≡ record { 0 = offsetIn summer } ⌝ }
+{
+    if summer {
+        return LocalMinusUtc(SUMMER);
+    }
+    LocalMinusUtc(WINTER)
+}
+
+pub(super) fn zone_of(summer: bool) -> u32
+    ensures { λ r. ⌜ r ≡ zoneOf summer ⌝ }
+{
+    if summer {
+        return 1;
+    }
+    2
+}
+
+pub(super) fn length_of(long: bool) -> usize
+    ensures { λ r. ⌜ r ≡ lengthOf long ⌝ }
+{
+    if long {
+        return Dcf77::LONG_LENGTH;
+    }
+    Dcf77::LENGTH
+}
+
+pub(super) fn due_long(r: Reading) -> bool
+    ensures { λ b. ⌜ b ≡ dueLong r ⌝ }
+{
+    r.leap & after_leap(utc_of(r))
+}
+
+// The fault, where there is one, before whatever comes after it.
+pub(super) fn first(bad: bool, fault: Fault, rest: Verdict) -> Verdict
+    ensures { λ v. ⌜ v ≡ first bad fault rest ⌝ }
+{
+    if bad {
+        return Verdict::Bad(fault);
+    }
+    rest
+}
+
+pub(super) fn and_then(verdict: Verdict, rest: Verdict) -> Verdict
+    ensures { λ v. ⌜ v ≡ andThen verdict rest ⌝ }
+{
+    match verdict {
+        Verdict::Good => rest,
+        Verdict::Bad(fault) => Verdict::Bad(fault),
+    }
+}

@@ -1,0 +1,174 @@
+// The writer: what each group of the marks has to say, what is refused, and the marks themselves.
+use super::Dcf77;
+use super::rules::and_then;
+use super::rules::due_long;
+use super::rules::first;
+use super::rules::length_of;
+use super::rules::offset_in;
+use super::rules::places;
+use super::rules::zone_of;
+use calendar::Date;
+use calendar::days::weekday;
+use dcf77_table::groups;
+use reading::Fault;
+use reading::LocalMinusUtc;
+use reading::Reading;
+use reading::Verdict;
+use reading::Written;
+use reading::checks::checked;
+use reading::faults::written;
+ghost use mathlib.Core.Path.{_≡_};
+ghost use mathlib.Core.Bool.{cond};
+ghost use Prim.Native.Nat.{_≤_};
+ghost use lib.ListN.{length};
+ghost use Rattle.laws.proofs.Signed.{same};
+ghost use Rattle.pulses.specs.Row.{laid};
+ghost use Rattle.reading.specs.Years.{base};
+ghost use Rattle.reading.specs.Writing.{writtenOf, filled};
+ghost use Rattle.dcf77_table.specs.Table.{minuteMarks};
+ghost use Rattle.dcf77.specs.Forms.{lengthOf, dueLong};
+ghost use Rattle.dcf77.specs.Writer.{bit, plainOf, evened, withParity, valuesOf, bytesOf, checkedWith, notCarried, carryFault, isGood, needed, roomFault, writeFault};
+
+const LAST_HEAD: u16 = 32767;
+
+// A quality that no reading may have.
+const BAD_QUALITY: u8 = 16;
+
+fn bit(flag: bool) -> u32
+    ensures { λ r. ⌜ r ≡ bit flag ⌝ }
+{
+    if flag {
+        return 1;
+    }
+    0
+}
+
+// What each group says, with the parity marks left 0.
+fn plain_values(r: Reading, head: u16) -> [u32; 32]
+    ensures { λ v. ⌜ v ≡ plainOf r head ⌝ }
+{
+    let date = Date {
+        year: r.year,
+        month: r.month,
+        day: r.day,
+    };
+    let mut v = [0u32; 32];
+    v[groups::HEAD] = head as u32;
+    v[groups::CHANGE] = bit(r.change);
+    v[groups::ZONE] = zone_of(r.summer);
+    v[groups::LEAP] = bit(r.leap);
+    v[groups::MINUTES] = (r.minute % 10) as u32;
+    v[groups::TENS_OF_MINUTES] = (r.minute / 10) as u32;
+    v[groups::HOURS] = (r.hour % 10) as u32;
+    v[groups::TENS_OF_HOURS] = (r.hour / 10) as u32;
+    v[groups::DAYS] = (r.day % 10) as u32;
+    v[groups::TENS_OF_DAYS] = (r.day / 10) as u32;
+    v[groups::WEEKDAY] = weekday(date) as u32;
+    v[groups::MONTHS] = (r.month % 10) as u32;
+    v[groups::TENS_OF_MONTHS] = (r.month / 10) as u32;
+    v[groups::YEARS] = (r.year % 10) as u32;
+    v[groups::TENS_OF_YEARS] = (r.year / 10 % 10) as u32;
+    v
+}
+
+// The mark at `to` that makes the ones from `from` on even in number.
+fn evened(s: &[u8], from: usize, to: usize) -> u32
+    requires { ⌜ from ≤ to ⌝ }
+    ensures { λ r. ⌜ r ≡ evened from to (now (s .entry)) ⌝ }
+{
+    pulses::ones(s, from, to - from) % 2
+}
+
+fn with_parity(v: [u32; 32], s: &[u8]) -> [u32; 32]
+    ensures { λ r. ⌜ r ≡ withParity v (now (s .entry)) ⌝ }
+{
+    let mut w = v;
+    w[groups::MINUTE_PARITY] = evened(s, places::MINUTE, places::MINUTE_PARITY);
+    w[groups::HOUR_PARITY] = evened(s, places::HOUR, places::HOUR_PARITY);
+    w[groups::DATE_PARITY] = evened(s, places::DAY, places::DATE_PARITY);
+    w
+}
+
+fn values_of(r: Reading, head: u16) -> [u32; 32]
+    ensures { λ v. ⌜ v ≡ valuesOf r head ⌝ }
+{
+    let plain = plain_values(r, head);
+    let mut marks = [0u8; 60];
+    dcf77_table::lay(&mut marks, false, plain);
+    with_parity(plain, &marks)
+}
+
+// A head that is too large is judged where a quality is: by the shared checks, of the reading with a quality too large.
+fn checked_with(r: Reading, head: u16) -> Verdict
+    ensures { λ v. ⌜ v ≡ checkedWith base r head ⌝ }
+{
+    if LAST_HEAD < head {
+        let mut spoiled = r;
+        spoiled.quality = BAD_QUALITY;
+        return checked(spoiled);
+    }
+    checked(r)
+}
+
+fn same(a: LocalMinusUtc, b: LocalMinusUtc) -> bool
+    ensures { λ r. ⌜ r ≡ same (a .0) (b .0) ⌝ }
+{
+    (a.west() == b.west()) & (a.east() == b.east())
+}
+
+fn not_carried(r: Reading) -> bool
+    ensures { λ b. ⌜ b ≡ notCarried r ⌝ }
+{
+    let zone = same(r.offset, offset_in(r.summer));
+    !((r.second == 0) & ((r.quality == 0) & zone))
+}
+
+fn carry_fault(r: Reading, head: u16) -> Verdict
+    ensures { λ v. ⌜ v ≡ carryFault base r head ⌝ }
+{
+    let rest = first(not_carried(r), Fault::NotCarried, Verdict::Good);
+    and_then(checked_with(r, head), rest)
+}
+
+fn is_good(verdict: Verdict) -> bool
+    ensures { λ r. ⌜ r ≡ isGood verdict ⌝ }
+{
+    match verdict {
+        Verdict::Good => true,
+        Verdict::Bad(_) => false,
+    }
+}
+
+fn needed(verdict: Verdict, long: bool) -> usize
+    ensures { λ r. ⌜ r ≡ needed verdict long ⌝ }
+{
+    length_of(is_good(verdict) & long)
+}
+
+fn room_fault(verdict: Verdict, long: bool, room: usize) -> Verdict
+    ensures { λ v. ⌜ v ≡ roomFault verdict long room ⌝ }
+{
+    first(room < needed(verdict, long), Fault::Length, verdict)
+}
+
+// Stores the minute whose groups say the values, where nothing was refused.
+fn store(good: bool, out: &mut [u8], long: bool, values: [u32; 32])
+    ensures { λ u. ⌜ now (out .exit) ≡ cond good (laid (minuteMarks long) values (now (out .entry))) (now (out .entry)) ⌝ }
+{
+    if !good {
+        return;
+    }
+    dcf77_table::lay(out, long, values);
+}
+
+impl Dcf77 {
+    pub fn write(r: Reading, head: u16, out: &mut [u8]) -> Written
+        ensures { λ w. ⌜ w ≡ writtenOf (writeFault base r head (length (now (out .entry)))) (lengthOf (dueLong r)) ⌝ }
+        ensures { λ w. ⌜ now (out .exit) ≡ filled (writeFault base r head (length (now (out .entry)))) (bytesOf r head) (now (out .entry)) ⌝ }
+    {
+        let long = due_long(r);
+        let verdict = room_fault(carry_fault(r, head), long, out.len());
+        store(is_good(verdict), out, long, values_of(r, head));
+        written(verdict, length_of(long))
+    }
+}

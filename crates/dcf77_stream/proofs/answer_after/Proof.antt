@@ -1,0 +1,72 @@
+-- `dcf77_stream::answer_after` meets its contract. The loop's invariant: the reader keeps the window of what it took, and said what was owed. Assumes nothing.
+use native.Mathlib.Omega.{arith}
+use borrow.Author.Needs.{needs}
+use mathlib.Core.Path.{_≡_, refl, ap, _∙_}
+use mathlib.Core.List.{List}
+use Prim.Native.Nat.{ℕ, _+_, _-_, _≤_, _<_}
+use native.Mathlib.Numerals.{add-one}
+use lib.ListN.{length, take, getD}
+use lib.Seq.{take-suc, take-all}
+use Rattle.reading.specs.Years.{base}
+use Rattle.streams.specs.Stream.{push, windowOf}
+use Rattle.dcf77_stream.specs.declared.PulseReader.{PulseReader}
+use Rattle.dcf77_stream.specs.declared.Stepped.{Stepped}
+use Rattle.dcf77_stream.specs.Said.{kept, filler, sayOf, outlined, owed}
+use Rattle.dcf77_stream.proofs.StreamLaws.{due, windowed}
+use Rattle.dcf77_stream.proofs.answer_after.Statement.{statement}
+use Rattle.dcf77_stream.proofs.answer_after.Tie as tie
+
+-- one more of them
+turn : (ps w : List ℕ) (i : ℕ) → i < length ps → w ≡ windowOf kept filler (take i ps) → push w (getD ps i 0) ≡ windowOf kept filler (take (i + 1) ps)
+turn ps w i h e = rw (e, windowed, ← take-suc ps i 0 h, add-one)
+
+abbrev Inv-loop : tie.InvT-loop
+Inv-loop symbols reader₀ said₀ i₀ reader said i = (i ≤ length symbols) × (reader .last ≡ windowOf kept filler (take i symbols)) × (said ≡ owed base (take i symbols))
+
+abbrev μ-loop : tie.MeasureT-loop
+μ-loop symbols reader₀ said₀ i₀ reader said i = length symbols - i
+
+fresh-requires : tie.Need-fresh-requires Inv-loop μ-loop
+fresh-requires c κs = search needs
+
+loop-holds : tie.Need-loop-holds Inv-loop μ-loop
+unfolding windowOf owed outlined
+loop-holds c = (omega arith, ap (λ (r : PulseReader). r .last) (c .fresh .ensures), refl)
+
+shared-slice-read-step : tie.Need-shared-slice-read-step Inv-loop μ-loop
+shared-slice-read-step c = search needs
+
+step-requires : tie.Need-step-requires Inv-loop μ-loop
+step-requires c κs = search needs
+
+add-i : tie.Need-add-i Inv-loop μ-loop
+add-i c = omega arith
+
+loop-less : tie.Need-loop-less Inv-loop μ-loop
+loop-less c = omega arith
+
+loop-again : tie.Need-loop-again Inv-loop μ-loop
+loop-again c =
+    let l = c .before .before .before .before .loop in
+    let ps = c .before .before .before .before .before .before .before .args .symbols .now in
+    let t = turn ps (l .reader .last) (l .i) (omega arith) (l .inv .1) in
+    let e = c .before .step .ensures in
+    (omega arith, ap (λ (s : Stepped). s .reader .last) e ∙ t, ap (λ (s : Stepped). s .said) e ∙ ap (sayOf base) t ∙ due base (take (l .i + 1) ps))
+
+returns : tie.Need-returns Inv-loop μ-loop
+returns c = let ps = c .before .before .before .before .args .symbols .now in c .before .loop .inv .2 ∙ ap (owed base) (take-all (c .before .loop .i) ps (c .loop-test .left))
+
+pub answer-after-spec : {M : Type 1} → statement M
+answer-after-spec =
+    tie.close
+    (tie.spec
+    Inv-loop
+    μ-loop
+    fresh-requires
+    loop-holds
+    shared-slice-read-step
+    step-requires
+    add-i
+    loop-less
+    loop-again
+    returns)

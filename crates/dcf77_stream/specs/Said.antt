@@ -1,0 +1,50 @@
+-- What a DCF77 pulse reader says: of its last 62 symbols, and what is owed after all the symbols that came.
+use mathlib.Core.Bool.{Bool, false, cond, _&&_}
+use mathlib.Core.List.{List, [], _∷_}
+use Prim.Native.Nat.{ℕ}
+use lib.Dec.{leb, ltb, eqb}
+use lib.ListN.{length, drop}
+use Rattle.dcf77.specs.declared.Answer.{Answer}
+use Rattle.dcf77.specs.declared.Answer.the-variants.{Time as Told, No as Not}
+use Rattle.dcf77.specs.Reader.{readDcf77}
+use Rattle.streams.specs.Stream.{lastOf}
+use Rattle.dcf77_stream.specs.declared.Said.{Said}
+use Rattle.dcf77_stream.specs.declared.Said.the-variants.{Time, No, Nothing}
+
+-- the symbols that a reader keeps: a gap, 60 marks, and a gap
+abbrev pub kept : ℕ
+kept = 62
+
+-- what a fresh reader is full of: no symbol
+abbrev pub filler : ℕ
+filler = 255
+
+abbrev pub saidOf : Answer → Said
+saidOf (Told r head) = Time r head
+saidOf (Not refusal) = No refusal
+
+-- "marks of 0 or 1, then a gap": a gap is a 2
+unfoldable pub marksThenGap : List ℕ → Bool
+marksThenGap [] = false
+marksThenGap (x ∷ xs) = cond (eqb (length xs) 0) (eqb x 2) (ltb x 2 && marksThenGap xs)
+
+-- "a gap, then marks of 0 or 1, then a gap"
+unfoldable pub betweenGaps : List ℕ → Bool
+betweenGaps [] = false
+betweenGaps (x ∷ xs) = eqb x 2 && marksThenGap xs
+
+-- of a window of 62 symbols: the outline of 60 marks, else that of 59 in the last 61. "What is read is those marks with the closing gap."
+unfoldable pub sayOf : ℕ → List ℕ → Said
+sayOf base w =
+    cond (betweenGaps w) (saidOf (readDcf77 base (drop 1 w)))
+    (cond (betweenGaps (drop 1 w)) (saidOf (readDcf77 base (drop 2 w))) Nothing)
+
+-- n symbols have come, and the last n of them have the outline
+unfoldable pub outlined : ℕ → List ℕ → Bool
+outlined n h = leb n (length h) && betweenGaps (lastOf n h)
+
+-- "of the marks since the gap before it, closing gap included. It says nothing where these do not have the frame's outline, or too few have come."
+unfoldable pub owed : ℕ → List ℕ → Said
+owed base h =
+    cond (outlined 62 h) (saidOf (readDcf77 base (drop 1 (lastOf 62 h))))
+    (cond (outlined 61 h) (saidOf (readDcf77 base (drop 1 (lastOf 61 h)))) Nothing)

@@ -1,0 +1,143 @@
+// The DCF77 pulse reader: it keeps the last 62 symbols, the oldest first. A fresh reader is full of a byte that is no
+// symbol, so that too few symbols are a case of no outline, and every value of its state is legal.
+use dcf77::Answer;
+use dcf77::Dcf77;
+use reading::Reading;
+use reading::Refusal;
+ghost use mathlib.Core.Path.{_≡_};
+ghost use Prim.Native.Nat.{_≤_, _<_};
+ghost use lib.ListN.{length, drop, replicate};
+ghost use Rattle.reading.specs.Years.{base};
+ghost use Rattle.dcf77.specs.Reader.{readDcf77};
+ghost use Rattle.streams.specs.Stream.{push};
+ghost use Rattle.dcf77_stream.specs.Said.{kept, filler, marksThenGap, betweenGaps, saidOf, sayOf, owed};
+
+// What is said after a symbol: a time with its head, a refusal or nothing.
+pub enum Said {
+    Time(Reading, u16),
+    No(Refusal),
+    Nothing,
+}
+
+pub struct PulseReader {
+    pub last: [u8; 62],
+}
+
+// The next state and the answer.
+pub struct Stepped {
+    pub reader: PulseReader,
+    pub said: Said,
+}
+
+fn said_of(answer: Answer) -> Said
+    ensures { λ r. ⌜ r ≡ saidOf answer ⌝ }
+{
+    match answer {
+        Answer::Time(r, head) => Said::Time(r, head),
+        Answer::No(refusal) => Said::No(refusal),
+    }
+}
+
+// Whether the symbols are marks of 0 or 1 and then a gap.
+fn marks_then_gap(symbols: &[u8]) -> bool
+    ensures { λ r. ⌜ r ≡ marksThenGap (now (symbols .entry)) ⌝ }
+{
+    let n = symbols.len();
+    if n == 0 {
+        return false;
+    }
+    let mut i = 0;
+    while i < n - 1 {
+        if symbols[i] >= 2 {
+            return false;
+        }
+        i += 1;
+    }
+    symbols[i] == 2
+}
+
+// Whether a gap stands at a place, marks of 0 or 1 after it, and a gap at the end.
+fn between_gaps(window: &[u8], from: usize) -> bool
+    requires { ⌜ from < length (now window) ⌝ }
+    ensures { λ r. ⌜ r ≡ betweenGaps (drop from (now (window .entry))) ⌝ }
+{
+    if window[from] == 2 {
+        let after = from + 1;
+        marks_then_gap(&window[after..])
+    } else {
+        false
+    }
+}
+
+// What whole-minute reading says of the symbols from a place on.
+fn read_from(window: &[u8], from: usize) -> Said
+    requires { ⌜ from ≤ length (now window) ⌝ }
+    ensures { λ r. ⌜ r ≡ saidOf (readDcf77 base (drop from (now (window .entry)))) ⌝ }
+{
+    said_of(Dcf77::read(&window[from..]))
+}
+
+// What is said of 62 symbols: a gap, 60 or 59 marks of 0 or 1, and a gap at the end.
+fn say(window: &[u8]) -> Said
+    requires { ⌜ length (now window) ≡ kept ⌝ }
+    ensures { λ r. ⌜ r ≡ sayOf base (now (window .entry)) ⌝ }
+{
+    if between_gaps(window, 0) {
+        return read_from(window, 1);
+    }
+    if between_gaps(window, 1) {
+        return read_from(window, 2);
+    }
+    Said::Nothing
+}
+
+fn shifted(window: [u8; 62], symbol: u8) -> [u8; 62]
+    ensures { λ r. ⌜ r ≡ push window symbol ⌝ }
+{
+    let mut next = window;
+    let mut i = 0;
+    while i < 61 {
+        next[i] = window[i + 1];
+        i += 1;
+    }
+    next[61] = symbol;
+    next
+}
+
+impl PulseReader {
+    // A reader that has taken no symbol.
+    pub fn fresh() -> Self
+        ensures { λ r. ⌜ r ≡ record { last = replicate kept filler } ⌝ }
+    {
+        PulseReader { last: [255u8; 62] }
+    }
+
+    // Takes one symbol, any byte.
+    pub fn step(self, symbol: u8) -> Stepped
+        ensures { λ r. ⌜ r ≡ record { reader = record { last = push (self .last) symbol }; said = sayOf base (push (self .last) symbol) } ⌝ }
+    {
+        let old = self.last;
+        let next = shifted(old, symbol);
+        let said = say(&next);
+        Stepped {
+            reader: PulseReader { last: next },
+            said,
+        }
+    }
+}
+
+// The answer after the last of the symbols, from a fresh reader on.
+pub fn answer_after(symbols: &[u8]) -> Said
+    ensures { λ r. ⌜ r ≡ owed base (now (symbols .entry)) ⌝ }
+{
+    let mut reader = PulseReader::fresh();
+    let mut said = Said::Nothing;
+    let mut i = 0;
+    while i < symbols.len() {
+        let s = reader.step(symbols[i]);
+        reader = s.reader;
+        said = s.said;
+        i += 1;
+    }
+    said
+}

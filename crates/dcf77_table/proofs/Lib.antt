@@ -1,0 +1,5 @@
+pub mod Family
+pub mod TableLaws
+pub mod ValueLaws
+pub mod PartLaws
+pub mod Unique

@@ -1,0 +1,92 @@
+-- What the verdict on a string, or on what a writer is given, tells: its length, its bytes, and the reading.
+use mathlib.Core.Bool.{false, not}
+use mathlib.Core.List.{List}
+use mathlib.Core.Path.{_≡_, refl}
+use Prim.Native.Nat.{ℕ, _≤_}
+use native.Mathlib.Omega.{arith}
+use lib.Dec.{eqb, ltb}
+use lib.ListN.{length}
+use borrow.Author.Tests.{not-false, ltb-false, le-ltb, eqb-true, eq-eqb}
+use Rattle.laws.proofs.Bools.{neither}
+use Rattle.wire.specs.Layout.{goodPlaces, printables}
+use Rattle.wire.proofs.LayoutLaws.{good-within, printables-within}
+use Rattle.reading.specs.declared.Reading.{Reading}
+use Rattle.reading.specs.declared.Verdict.{Verdict}
+use Rattle.reading.specs.declared.Verdict.the-variants.{Good, Bad}
+use Rattle.reading.specs.Writing.{andThen}
+use Rattle.reading.specs.Checks.{checkedOf}
+use Rattle.reading.proofs.CheckLaws.{clash, first-good}
+use Rattle.strings.proofs.CheckLaws.{Sound, sound, faultless}
+use Rattle.erlangen.specs.Layout.{size, positionSize, layout}
+use Rattle.erlangen.specs.Meaning.{places, weekdaySaid, offsetWrong, markWrong, readingOf, faultIn}
+use Rattle.erlangen.specs.Writing.{notCarried, lengthBad, carriedOf, writeFault}
+
+-- ---- a string
+
+pub record Accepted (base : ℕ) (s : List ℕ) : Type 0 where
+  pub size-is : length s ≡ size
+  pub bytes : goodPlaces layout s ≡ length s
+  pub sounds : Sound (readingOf base s) (weekdaySaid s) (offsetWrong s) (markWrong s)
+
+module _ (base : ℕ) (s : List ℕ) where
+  pub accepted-is : faultIn base s ≡ Good → Accepted base s
+  unfolding faultIn
+  accepted-is e =
+      let a = first-good (not (eqb (length s) size)) _ _ e in
+      let b = first-good (ltb (goodPlaces layout s) size) _ _ (a .1) in
+      let l = eqb-true (length s) size (not-false _ (a .0)) in
+      let g = ltb-false (goodPlaces layout s) size (b .0) in
+      record { size-is = l; bytes = omega (arith, good-within layout s); sounds = sound _ _ _ _ places (b .1) }
+
+  pub is-accepted : Accepted base s → faultIn base s ≡ Good
+  unfolding faultIn
+  is-accepted p =
+      let g : size ≤ goodPlaces layout s = omega (arith, p .bytes, p .size-is) in
+      rw (eq-eqb (length s) size (p .size-is), le-ltb (goodPlaces layout s) size g) (faultless _ _ _ _ places (p .sounds))
+
+  pub accepted-length : faultIn base s ≡ Good → length s ≡ size
+  accepted-length e = accepted-is e .size-is
+
+-- ---- what a writer is given
+
+pub record Carried (base : ℕ) (r : Reading) (position : List ℕ) (room : ℕ) : Type 0 where
+  pub roomy : size ≤ room
+  pub size-is : length position ≡ positionSize
+  pub printing : printables position ≡ length position
+  pub checked : checkedOf base r ≡ Good
+  pub quality : notCarried (r .quality) ≡ false
+
+then-good : (v w : Verdict) → andThen v w ≡ Good → (v ≡ Good) × (w ≡ Good)
+then-good Good w e = (refl, e)
+then-good (Bad x) w e = let z : _≡_ {A = ℕ} 0 1 = cc in clash z
+
+module _ (base : ℕ) (r : Reading) (position : List ℕ) (room : ℕ) where
+  pub carried-is : writeFault base r position room ≡ Good → Carried base r position room
+  unfolding writeFault lengthBad carriedOf
+  carried-is e =
+      let a = first-good (lengthBad position room) _ _ e in
+      let b = first-good (ltb (printables position) positionSize) _ _ (a .1) in
+      let d = then-good (checkedOf base r) _ (b .1) in
+      let f = first-good (notCarried (r .quality)) _ _ (d .1) in
+      let n = neither (ltb room size) (not (eqb (length position) positionSize)) (a .0) in
+      let l = eqb-true (length position) positionSize (not-false _ (n .1)) in
+      let g = ltb-false (printables position) positionSize (b .0) in
+      record {
+        roomy = ltb-false room size (n .0);
+        size-is = l;
+        printing = omega (arith, printables-within position);
+        checked = d .0;
+        quality = f .0;
+      }
+
+  pub is-carried : Carried base r position room → writeFault base r position room ≡ Good
+  unfolding writeFault lengthBad carriedOf
+  is-carried p =
+      let g : positionSize ≤ printables position = omega (arith, p .size-is, p .printing) in
+      rw (
+        le-ltb room size (p .roomy),
+        eq-eqb (length position) positionSize (p .size-is),
+        le-ltb (printables position) positionSize g,
+        p .checked,
+        p .quality,
+      )

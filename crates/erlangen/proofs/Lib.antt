@@ -1,0 +1,11 @@
+pub mod OffsetLaws
+pub mod FaultLaws
+pub mod BytesLaws
+pub mod PlaceLaws
+pub mod ReadLaws
+pub mod FitLaws
+pub mod WriteLaws
+pub mod Promises
+pub mod Unique
+pub mod Worked
+pub mod StandIns

@@ -1,0 +1,59 @@
+-- `erlangen::writing::carried` meets its contract. Assumes nothing.
+use mathlib.Core.Bool.{true, false}
+use mathlib.Core.Path.{_≡_}
+use Rattle.reading.specs.declared.Reading.{Reading}
+use Rattle.reading.specs.declared.Fault.{Fault}
+use Rattle.reading.specs.declared.Fault.the-variants.{NotCarried}
+use Rattle.reading.specs.declared.Verdict.the-variants.{Good, Bad}
+use Rattle.reading.specs.Years.{base}
+use Rattle.reading.specs.Checks.{checkedOf}
+use Rattle.erlangen.specs.Writing.{notCarried, carriedOf}
+use borrow.Author.Needs.{needs}
+use Rattle.erlangen.proofs.writing.carried.Statement.{statement}
+use Rattle.erlangen.proofs.writing.carried.Tie as tie
+
+module _ (r : Reading) where
+  refused : (x : Fault) → checkedOf base r ≡ Bad x → Bad x ≡ carriedOf base r
+  unfolding carriedOf
+  refused x e = rw e
+
+  stopped : checkedOf base r ≡ Good → notCarried (r .quality) ≡ true → Bad NotCarried ≡ carriedOf base r
+  unfolding carriedOf
+  stopped e f = rw (e, f)
+
+  through : checkedOf base r ≡ Good → notCarried (r .quality) ≡ false → Good ≡ carriedOf base r
+  unfolding carriedOf
+  through e f = rw (e, f)
+
+checked-requires : tie.Need-checked-requires
+checked-requires c κs = search needs
+
+enum-known-fault : tie.Need-enum-known-fault
+enum-known-fault c = search needs
+
+enum-told : tie.Need-enum-told
+enum-told c = search needs
+
+not-carried-requires : tie.Need-not-carried-requires
+not-carried-requires c κs = search needs
+
+returns : tie.Need-returns
+returns c = stopped _ (cc) (cc)
+
+returns-2 : tie.Need-returns-2
+returns-2 c = refused _ (c .before .fault .given .0 .0) (cc)
+
+returns-3 : tie.Need-returns-3
+returns-3 c = through _ (cc) (cc)
+
+pub carried-spec : {M : Type 1} → statement M
+carried-spec =
+    tie.close
+    (tie.spec
+    checked-requires
+    enum-known-fault
+    enum-told
+    not-carried-requires
+    returns
+    returns-2
+    returns-3)

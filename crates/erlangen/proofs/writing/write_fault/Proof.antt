@@ -1,0 +1,60 @@
+-- `erlangen::writing::write_fault` meets its contract. Assumes nothing.
+use mathlib.Core.Bool.{true, false}
+use mathlib.Core.List.{List}
+use mathlib.Core.Path.{_≡_, _∙_}
+use Prim.Native.Nat.{ℕ, _≤_, _<_}
+use borrow.Author.Tests.{lt-ltb, le-ltb}
+use Rattle.wire.specs.Layout.{printables}
+use Rattle.reading.specs.declared.Reading.{Reading}
+use Rattle.reading.specs.declared.Fault.the-variants.{Length, Byte}
+use Rattle.reading.specs.declared.Verdict.{Verdict}
+use Rattle.reading.specs.declared.Verdict.the-variants.{Bad}
+use Rattle.reading.specs.Years.{base}
+use Rattle.erlangen.specs.Layout.{positionSize}
+use Rattle.erlangen.specs.Writing.{lengthBad, carriedOf, writeFault}
+use borrow.Author.Needs.{needs}
+use Rattle.erlangen.proofs.writing.write_fault.Statement.{statement}
+use Rattle.erlangen.proofs.writing.write_fault.Tie as tie
+
+module _ (r : Reading) (position : List ℕ) (room : ℕ) where
+  wrong-length : lengthBad position room ≡ true → Bad Length ≡ writeFault base r position room
+  unfolding writeFault
+  wrong-length e = rw e
+
+  wrong-byte : (good : ℕ) → lengthBad position room ≡ false → good ≡ printables position → good < positionSize → Bad (Byte good) ≡ writeFault base r position room
+  unfolding writeFault
+  wrong-byte good e f h = rw (e, ← f, lt-ltb good positionSize h)
+
+  rest : {v : Verdict} (good : ℕ) → lengthBad position room ≡ false → good ≡ printables position → positionSize ≤ good
+      → v ≡ carriedOf base r → v ≡ writeFault base r position room
+  unfolding writeFault
+  rest good e f h g = g ∙ rw (e, ← f, le-ltb good positionSize h)
+
+length-bad-requires : tie.Need-length-bad-requires
+length-bad-requires c κs = search needs
+
+returns : tie.Need-returns
+returns c = wrong-length _ _ _ (cc)
+
+unprintable-at-requires : tie.Need-unprintable-at-requires
+unprintable-at-requires c κs = search needs
+
+returns-2 : tie.Need-returns-2
+returns-2 c = wrong-byte _ _ _ _ (cc) (c .before .unprintable-at .ensures) (c .if2 .taken)
+
+carried-requires : tie.Need-carried-requires
+carried-requires c κs = search needs
+
+returns-3 : tie.Need-returns-3
+returns-3 c = rest _ _ _ _ (cc) (c .before .before .unprintable-at .ensures) (c .before .if2 .left) (c .carried .ensures)
+
+pub write-fault-spec : {M : Type 1} → statement M
+write-fault-spec =
+    tie.close
+    (tie.spec
+    length-bad-requires
+    returns
+    unprintable-at-requires
+    returns-2
+    carried-requires
+    returns-3)

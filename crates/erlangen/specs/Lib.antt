@@ -1,0 +1,4 @@
+pub mod Layout
+pub mod Offset
+pub mod Meaning
+pub mod Writing

@@ -1,0 +1,130 @@
+// What a Uni Erlangen string says, its first fault, and its reader.
+use super::Erlangen;
+use super::layout::good_places;
+use super::offset::offset_bad;
+use super::offset::offset_of;
+use reading::Fault;
+use reading::Reading;
+use reading::Verdict;
+use reading::years::year_of;
+use strings::Answer;
+use strings::Places;
+use strings::fault_of;
+use strings::told;
+use wire::digits::one_digit;
+use wire::digits::two_digits;
+ghost use mathlib.Core.Path.{_≡_};
+ghost use mathlib.Core.Bool.{cond};
+ghost use Prim.Native.Nat.{_+_};
+ghost use Rattle.reading.specs.Years.{base};
+ghost use Rattle.erlangen.specs.Meaning.{shows, weekdaySaid, coastingSaid, offsetWrong, markWrong, readingOf, faultIn, readErlangen, positionOf, startFor};
+
+const PLACES: Places = Places {
+    day: 1,
+    month: 4,
+    weekday: 11,
+    hour: 14,
+    minute: 17,
+    second: 20,
+    offset: 24,
+};
+
+// Past the end stands no byte that is asked for, but the definition has a 0 there.
+fn shows(s: &[u8], place: usize, byte: u8) -> bool
+    ensures { λ r. ⌜ r ≡ shows (now (s .entry)) place byte ⌝ }
+{
+    if place < s.len() {
+        return s[place] == byte;
+    }
+    0 == byte
+}
+
+fn weekday_said(s: &[u8]) -> u8
+    ensures { λ r. ⌜ r ≡ weekdaySaid (now (s .entry)) ⌝ }
+{
+    one_digit(s, 11)
+}
+
+fn coasting_said(s: &[u8]) -> bool
+    ensures { λ r. ⌜ r ≡ coastingSaid (now (s .entry)) ⌝ }
+{
+    shows(s, 33, b'*')
+}
+
+fn offset_wrong(s: &[u8]) -> bool
+    ensures { λ r. ⌜ r ≡ offsetWrong (now (s .entry)) ⌝ }
+{
+    offset_bad(shows(s, 24, b'-'), two_digits(s, 25), two_digits(s, 28))
+}
+
+fn mark_wrong(s: &[u8]) -> bool
+    ensures { λ r. ⌜ r ≡ markWrong (now (s .entry)) ⌝ }
+{
+    shows(s, 38, b'L') != (two_digits(s, 20) == 60)
+}
+
+fn quality_of(failed: bool) -> u8
+    ensures { λ r. ⌜ r ≡ cond failed 15 0 ⌝ }
+{
+    if failed {
+        return 15;
+    }
+    0
+}
+
+fn reading_of(s: &[u8]) -> Reading
+    ensures { λ r. ⌜ r ≡ readingOf base (now (s .entry)) ⌝ }
+{
+    let offset = offset_of(shows(s, 24, b'-'), two_digits(s, 25), two_digits(s, 28));
+    Reading {
+        year: year_of(two_digits(s, 7)),
+        month: two_digits(s, 4),
+        day: two_digits(s, 1),
+        hour: two_digits(s, 14),
+        minute: two_digits(s, 17),
+        second: two_digits(s, 20),
+        offset,
+        summer: shows(s, 34, b'S'),
+        leap: shows(s, 36, b'A'),
+        change: shows(s, 35, b'!'),
+        quality: quality_of(shows(s, 32, b'#')),
+    }
+}
+
+fn fault_in(s: &[u8]) -> Verdict
+    ensures { λ v. ⌜ v ≡ faultIn base (now (s .entry)) ⌝ }
+{
+    if s.len() != Erlangen::LENGTH {
+        return Verdict::Bad(Fault::Length);
+    }
+    let good = good_places(s);
+    if good < Erlangen::LENGTH {
+        return Verdict::Bad(Fault::Byte(good));
+    }
+    fault_of(
+        reading_of(s),
+        weekday_said(s),
+        offset_wrong(s),
+        mark_wrong(s),
+        PLACES,
+    )
+}
+
+impl Erlangen {
+    pub fn read(s: &[u8]) -> Answer
+        ensures { λ a. ⌜ a ≡ readErlangen base (now (s .entry)) ⌝ }
+    {
+        told(fault_in(s), reading_of(s), coasting_said(s))
+    }
+
+    // The position bytes as a part of the caller's own string; the empty part where the string is refused.
+    pub fn position_part(s: &[u8]) -> &[u8]
+        ensures { λ r. ⌜ now r ≡ positionOf base (now (s .entry)) ⌝ }
+        ensures { λ r. ⌜ r .ptr ≡ (s .entry .ptr .0, startFor (faultIn base (now (s .entry))) + s .entry .ptr .1) ⌝ }
+    {
+        match fault_in(s) {
+            Verdict::Good => &s[41..Erlangen::LAST],
+            Verdict::Bad(_) => &s[0..0],
+        }
+    }
+}

@@ -1,0 +1,73 @@
+// The offset of a string: a sign, hours and minutes, and the units of a reading that they are.
+use reading::LocalMinusUtc;
+ghost use mathlib.Core.Path.{_≡_};
+ghost use Prim.Native.Nat.{_<_};
+ghost use Rattle.erlangen.specs.Offset.{wholeUnits, unitsOf, tooFar, offsetBad, signed, offsetOf, isBehind, minutesOf};
+
+// The minutes of a unit, and the units that an offset goes west and east of UTC.
+const UNIT: u16 = 30;
+
+const WESTMOST: u16 = 24;
+
+const EASTMOST: u16 = 28;
+
+fn whole_units(minutes: u8) -> bool
+    ensures { λ r. ⌜ r ≡ wholeUnits minutes ⌝ }
+{
+    (minutes < 60) & ((minutes as u16) % UNIT == 0)
+}
+
+fn units_of(hours: u8, minutes: u8) -> u16
+    ensures { λ r. ⌜ r ≡ unitsOf hours minutes ⌝ }
+{
+    (60 * (hours as u16) + (minutes as u16)) / UNIT
+}
+
+fn too_far(behind: bool, units: u16) -> bool
+    ensures { λ r. ⌜ r ≡ tooFar behind units ⌝ }
+{
+    if behind {
+        return WESTMOST < units;
+    }
+    EASTMOST < units
+}
+
+pub fn offset_bad(behind: bool, hours: u8, minutes: u8) -> bool
+    ensures { λ r. ⌜ r ≡ offsetBad behind hours minutes ⌝ }
+{
+    let units = units_of(hours, minutes);
+    !whole_units(minutes) | (behind & (units == 0) | too_far(behind, units))
+}
+
+fn signed(behind: bool, units: u16) -> LocalMinusUtc
+    requires { ⌜ units < 128 ⌝ }
+    ensures { λ r. ⌜ r ≡ record { 0 = signed behind units } ⌝ }
+{
+    let size = units as i8;
+    if behind {
+        return LocalMinusUtc(-size);
+    }
+    LocalMinusUtc(size)
+}
+
+pub fn offset_of(behind: bool, hours: u8, minutes: u8) -> LocalMinusUtc
+    ensures { λ r. ⌜ r ≡ record { 0 = offsetOf behind hours minutes } ⌝ }
+{
+    if offset_bad(behind, hours, minutes) {
+        return LocalMinusUtc(0);
+    }
+    signed(behind, units_of(hours, minutes))
+}
+
+pub fn is_behind(offset: LocalMinusUtc) -> bool
+    ensures { λ r. ⌜ r ≡ isBehind (offset .0) ⌝ }
+{
+    0 < offset.west()
+}
+
+pub fn minutes_of(offset: LocalMinusUtc) -> u16
+    ensures { λ r. ⌜ r ≡ minutesOf (offset .0) ⌝ }
+    ensures { λ r. ⌜ r < 7680 ⌝ }
+{
+    UNIT * (offset.west() + offset.east())
+}

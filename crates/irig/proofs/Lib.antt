@@ -1,0 +1,13 @@
+pub mod Each
+pub mod OffsetLaws
+pub mod GroupLaws
+pub mod FieldLaws
+pub mod ValueLaws
+pub mod AgainLaws
+pub mod ParityLaws
+pub mod WriteLaws
+pub mod FrameLaws
+pub mod RoundTrip
+pub mod Unique
+pub mod Worked
+pub mod StandIns

@@ -1,0 +1,4 @@
+pub mod Offset
+pub mod Meaning
+pub mod Faults
+pub mod Writing

@@ -1,0 +1,22 @@
+-- The offset as an IEEE 1344 frame has it: a sign and half hours, which are added to local time to give UTC.
+use mathlib.Core.Bool.{Bool, true, false, cond}
+use Prim.Native.Nat.{ℕ, _*_, _/_}
+use lib.IntN.{ℤ, pos, negsuc, natAbs}
+use Rattle.reading.specs.Offset.{unit, opposite}
+
+-- how many units of an offset half an hour has
+abbrev pub perHalf : ℕ
+perHalf = 30 / unit
+
+-- the amount that a sign and half hours say: "sign (1 minus)"
+abbrev pub amountOf : Bool → ℕ → ℤ
+amountOf minus halves = cond minus (opposite (pos (perHalf * halves))) (pos (perHalf * halves))
+
+-- the sign of an amount
+abbrev pub isMinus : ℤ → Bool
+isMinus (pos n) = false
+isMinus (negsuc n) = true
+
+-- the half hours of an amount
+abbrev pub halvesOf : ℤ → ℕ
+halvesOf a = natAbs a / perHalf

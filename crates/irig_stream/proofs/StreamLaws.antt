@@ -1,0 +1,57 @@
+-- Demand 3 for IEEE 1344: after every pulse a fresh reader says what is owed to the pulses that came, and no damage lasts longer than a hundred pulses.
+use mathlib.Core.Bool.{Bool, true, false, cond}
+use mathlib.Core.List.{List, [], _∷_, _++_}
+use mathlib.Core.Path.{_≡_, refl, ap}
+use Prim.Native.Nat.{ℕ, _≤_, _<_}
+use native.Mathlib.Omega.{arith}
+use lib.Dec.{leb, eqb}
+use lib.ListN.{length, getD, replicate}
+use borrow.Author.Tests.{leb-true, leb-false}
+use Rattle.pulses.specs.Row.{groupOf}
+use Rattle.pulses.specs.Outline.{inOutline, outlineOf}
+use Rattle.pulses.proofs.OutlineLaws.{outlineAt, outline-each, outline-mark}
+use Rattle.irig_table.specs.Table.{framePulses}
+use Rattle.irig_table.proofs.TableLaws.{frame-length}
+use Rattle.streams.specs.Stream.{push, lastOf, windowOf, saidTo, owedTo}
+use Rattle.streams.proofs.Window.{window-push, window-full, window-early}
+use Rattle.streams.proofs.Runs as runs
+use Rattle.irig_stream.specs.declared.Said.{Said}
+use Rattle.irig_stream.specs.declared.Said.the-variants.{Nothing}
+use Rattle.irig_stream.specs.Said.{kept, filler, sayOf, owed}
+
+-- the first place of a frame is a mark
+first-is-mark : groupOf (getD framePulses 0 0) ≡ 1
+unfolding groupOf framePulses
+first-is-mark = refl
+
+-- a window whose oldest is the filler has no outline
+no-outline : (w : List ℕ) → getD w 0 0 ≡ filler → outlineOf framePulses w ≡ false
+no-outline w e = go (outlineOf framePulses w) refl
+  where
+    go : (b : Bool) → outlineOf framePulses w ≡ b → b ≡ false
+    go false k = refl
+    go true k = absurd (clash (outline-mark (getD framePulses 0 0) (getD w 0 0) first-is-mark (outline-each framePulses w k 0 (omega (arith, frame-length)))))
+      where
+        clash : getD w 0 0 ≡ 2 → ⊥
+        clash h = omega arith
+
+by-test : (base : ℕ) (h : List ℕ) (b : Bool) → leb kept (length h) ≡ b → sayOf base (windowOf kept filler h) ≡ cond b (sayOf base (lastOf kept h)) Nothing
+unfolding sayOf
+by-test base h true e = ap (sayOf base) (window-full kept filler h (leb-true kept (length h) e))
+by-test base h false e = rw (no-outline (windowOf kept filler h) (window-early kept filler h (leb-false kept (length h) e)))
+
+pub due : (base : ℕ) (h : List ℕ) → sayOf base (windowOf kept filler h) ≡ owed base h
+unfolding owed
+due base h = by-test base h (leb kept (length h)) refl
+
+-- after every pulse of every stream
+pub after-every-pulse : (base : ℕ) (pulses : List ℕ) → saidTo (sayOf base) (replicate kept filler) pulses ≡ owedTo (owed base) [] pulses
+after-every-pulse base = runs.run kept filler (omega arith) (sayOf base) (owed base) (due base)
+
+-- "two readers whose last hundred pulses agree say the same from then on while they are fed alike"
+pub agree-agree : (base : ℕ) (g h : List ℕ) → kept ≤ length g → kept ≤ length h → lastOf kept g ≡ lastOf kept h → (pulses : List ℕ) → owedTo (owed base) g pulses ≡ owedTo (owed base) h pulses
+agree-agree base = runs.alike kept filler (omega arith) (sayOf base) (owed base) (due base)
+
+-- one pulse more
+pub windowed : (h : List ℕ) (p : ℕ) → push (windowOf kept filler h) p ≡ windowOf kept filler (h ++ (p ∷ []))
+windowed h p = window-push kept filler h p (omega arith)
