@@ -10,6 +10,7 @@ import dcf77
 import erlangen
 import ieee1344
 import meinberg
+import published
 import pulse_readers
 from book import listing_lines
 from reading import Reading, Refusal, Told, stamp
@@ -137,6 +138,7 @@ LINES = {
     11: lambda payload: said_line(pulse_readers.FrameReader(), payload),
     12: lambda payload: said_line(pulse_readers.MinuteReader(), payload),
     13: lambda payload: " | ".join(listing_lines(payload)),
+    14: lambda payload: published.table_line(),
     20: lambda payload: changes_line(meinberg.read, payload),
     21: lambda payload: changes_line(erlangen.read, payload),
     22: lambda payload: changes_line(ieee1344.read, payload),

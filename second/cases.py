@@ -12,6 +12,7 @@ import case_streams
 import case_strings
 
 NAMED = {
+    "table": lambda: iter([bytes((14, 0, 0))]),
     "strings": case_strings.make,
     "frames": case_frames.make,
     "minutes": case_minutes.make,

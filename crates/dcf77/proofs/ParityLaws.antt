@@ -2,18 +2,25 @@
 use mathlib.Core.Bool.{Bool, false}
 use mathlib.Core.List.{List}
 use mathlib.Core.Path.{_≡_, sym, ap, _∙_}
-use Prim.Native.Nat.{ℕ, _+_, _-_, _%_, _<_}
+use Prim.Native.Nat.{ℕ, _+_, _-_, _%_, _<_, _≤_}
 use native.Mathlib.Omega.{arith}
 use borrow.Author.Tests.{ne-eqb, eqb-false}
-use lib.ListN.{getD}
-use Rattle.pulses.specs.Row.{row, onesFrom, onesOf}
+use lib.Dec.{eqb}
+use lib.ListN.{length, getD}
+use Rattle.pulses.specs.Row.{row, onesFrom, onesOf, sumFrom}
 use Rattle.pulses.proofs.RowLaws.{length-row}
-use Rattle.pulses.proofs.OnesLaws.{ones-of-part}
+use Rattle.pulses.proofs.OnesLaws.{ones-of-part, parity-of-sum}
 use Rattle.dcf77_table.specs.Table.{minuteMarks}
 use Rattle.dcf77_table.proofs.TableLaws.{long-enough}
 use Rattle.dcf77_table.proofs.PartLaws.{Part, SamePlain, part-same, part-ones}
 use Rattle.dcf77.specs.Reader.{odd}
 use Rattle.dcf77.specs.Writer.{evened}
+
+-- the ones are odd in number exactly where the sum of the marks is odd
+pub odd-is-sum : (a b : ℕ) (s : List ℕ) → a ≤ b → b < length s → b < 126 → odd a b s ≡ eqb (sumFrom a (b + 1 - a) s % 2) 1
+unfolding odd
+odd-is-sum a b s h k l =
+    rw (ones-of-part a (b + 1 - a) s (omega arith) (omega arith)) (ap (λ (n : ℕ). eqb n 1) (parity-of-sum a (b + 1 - a) s))
 
 module _ {a b g : ℕ} (p : Part a b g) where
   evened-is : (v : List ℕ) → evened a b (row (minuteMarks false) v) ≡ onesFrom a (b - a) (row (minuteMarks false) v) % 2

@@ -27,32 +27,42 @@ dueLong r = r .leap && afterLeap (utcOf r)
 
 -- ---- where each field begins, and where its parity mark stands
 
+-- the marks 17 and 18, the zone
 abbrev pub zonePlace : ℕ
 zonePlace = 17
 
+-- the marks 21 to 27, the minute
 abbrev pub minutePlace : ℕ
 minutePlace = 21
 
+-- the parity of the minute
 abbrev pub minuteParityPlace : ℕ
 minuteParityPlace = 28
 
+-- the marks 29 to 34, the hour
 abbrev pub hourPlace : ℕ
 hourPlace = 29
 
+-- the parity of the hour
 abbrev pub hourParityPlace : ℕ
 hourParityPlace = 35
 
+-- the marks 36 to 41, the day
 abbrev pub dayPlace : ℕ
 dayPlace = 36
 
+-- the marks 42 to 44, the weekday
 abbrev pub weekdayPlace : ℕ
 weekdayPlace = 42
 
+-- the marks 45 to 49, the month
 abbrev pub monthPlace : ℕ
 monthPlace = 45
 
+-- the marks 50 to 57, the year
 abbrev pub yearPlace : ℕ
 yearPlace = 50
 
+-- the parity of day, weekday, month and year
 abbrev pub dateParityPlace : ℕ
 dateParityPlace = 58

@@ -39,6 +39,7 @@ const WINTER: i8 = 2;
 
 const SUMMER: i8 = 4;
 
+// The two zones: each has its offset, and its marks 17 and 18 as a number.
 pub(super) fn offset_in(summer: bool) -> LocalMinusUtc
     ensures { λ r. ⌜ r ≡ record { 0 = offsetIn summer } ⌝ }
 {
@@ -72,7 +73,7 @@ pub(super) fn due_long(r: Reading) -> bool
     r.leap & after_leap(utc_of(r))
 }
 
-// The fault, where there is one, before whatever comes after it.
+// The fault, where there is one, before whatever comes after it: the checks are put together from the last to the first.
 pub(super) fn first(bad: bool, fault: Fault, rest: Verdict) -> Verdict
     ensures { λ v. ⌜ v ≡ first bad fault rest ⌝ }
 {

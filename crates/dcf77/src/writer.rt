@@ -89,6 +89,7 @@ fn with_parity(v: [u32; 32], s: &[u8]) -> [u32; 32]
     w
 }
 
+// The marks are laid with the parities left 0 first, to count their ones.
 fn values_of(r: Reading, head: u16) -> [u32; 32]
     ensures { λ v. ⌜ v ≡ valuesOf r head ⌝ }
 {
@@ -110,6 +111,7 @@ fn checked_with(r: Reading, head: u16) -> Verdict
     checked(r)
 }
 
+// An offset lies west or east of UTC, so that both amounts tell it.
 fn same(a: LocalMinusUtc, b: LocalMinusUtc) -> bool
     ensures { λ r. ⌜ r ≡ same (a .0) (b .0) ⌝ }
 {

@@ -6,6 +6,7 @@ pub mod ValueLaws
 pub mod AgainLaws
 pub mod ParityLaws
 pub mod WriteLaws
+pub mod RefusalLaws
 pub mod FrameLaws
 pub mod RoundTrip
 pub mod Unique

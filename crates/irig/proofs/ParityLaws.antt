@@ -1,9 +1,11 @@
 -- The parity of a frame: its group has one pulse, which is left out where the ones are counted, and which makes them even.
 use mathlib.Core.Path.{_≡_, refl, sym, ap, _∙_}
+use mathlib.Core.Bool.{not}
 use mathlib.Core.List.{List, _++_}
 use Prim.Native.Nat.{ℕ, _+_, _/_, _%_, _<_, _≤_}
 use native.Mathlib.Decide.{ℕ-discrete}
 use native.Mathlib.Omega.{arith}
+use lib.Dec.{eqb}
 use lib.ListN.{length, getD, drop, set, length-set, length-append}
 use lib.Seq.{ext-getD, getD-set-same, getD-set-other, set-append-left}
 use Rattle.reading.specs.declared.Reading.{Reading}
@@ -13,7 +15,7 @@ use Rattle.pulses.proofs.RowLaws.{length-row, pulse-at, enough}
 use Rattle.pulses.proofs.OnesLaws.{ones-more, ones-same, ones-front, ones-of-part, parity-of-sum}
 use Rattle.irig_table.specs.Table.{framePulses, parity}
 use Rattle.irig_table.proofs.TableLaws.{frame-length, parity-alone}
-use Rattle.irig.specs.Faults.{frameLength, parityPlace}
+use Rattle.irig.specs.Faults.{frameLength, parityPlace, isOdd}
 use Rattle.irig.specs.Writing.{groupsOf, valuesOf, beforeParity, parityOf, frameOf}
 
 module _ (r : Reading) (p : ℕ) where
@@ -98,6 +100,11 @@ frame-even-sum r = sym (parity-of-sum 1 parityPlace (frameOf r)) ∙ frame-even 
 -- the ones among 1 to 75 are even where the pulse 75 is the parity of the others
 pub parity-right : (s : List ℕ) → getD s parityPlace 0 < 2 → onesFrom 1 parityPlace s % 2 ≡ 0 → onesFrom 1 beforeParity s % 2 ≡ getD s parityPlace 0
 parity-right s h e = omega (arith, ones-more 1 beforeParity s)
+
+-- of any bytes: the reader's parity, by the count of ones in packed words, is that of the sum of the pulses
+pub odd-by-sum : (s : List ℕ) → isOdd s ≡ not (eqb (sumFrom 1 parityPlace s % 2) 0)
+unfolding isOdd
+odd-by-sum s = rw (parity-of-sum 1 parityPlace s)
 
 -- ---- a frame, laid with parity 0 and mended
 

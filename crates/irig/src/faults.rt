@@ -31,6 +31,7 @@ ghost use lib.ListN.{length};
 ghost use Rattle.calendar.specs.Calendar.{leapYear, inYear};
 ghost use Rattle.reading.specs.Years.{base};
 ghost use Rattle.reading.specs.Offset.{offsetGood};
+ghost use Rattle.irig_table.specs.Table.{minus, secondOfDay};
 ghost use Rattle.irig.specs.Meaning.{said, isSet, overNine, Small, halvesIn, readingOf, secondOfDayAt};
 ghost use Rattle.irig.specs.Faults.{frameLength, digitFault, timeFault, restFault, parityFault, isOdd, fieldsFault, valuesFault};
 
@@ -153,14 +154,14 @@ fn day_bad(year: u16, day: u16) -> bool
 }
 
 fn second_of_day_wrong(v: [u32; 32], r: Reading) -> bool
-    ensures { λ b. ⌜ b ≡ not (eqb (said v 23) (secondOfDayAt (r .hour) (r .minute) (r .second))) ⌝ }
+    ensures { λ b. ⌜ b ≡ not (eqb (said v secondOfDay) (secondOfDayAt (r .hour) (r .minute) (r .second))) ⌝ }
 {
     v[SECOND_OF_DAY] != second_of_day(r)
 }
 
 fn offset_bad(v: [u32; 32], offset: LocalMinusUtc) -> bool
     requires { ⌜ Small v ⌝ }
-    ensures { λ b. ⌜ b ≡ (isSet v 18 && eqb (halvesIn v) 0 || not (offsetGood (offset .0))) ⌝ }
+    ensures { λ b. ⌜ b ≡ (isSet v minus && eqb (halvesIn v) 0 || not (offsetGood (offset .0))) ⌝ }
 {
     is_set(v, MINUS) & (halves_in(v) == 0) | !offset.is_good()
 }

@@ -7,6 +7,8 @@ use reading::years::year_of;
 ghost use mathlib.Core.Path.{_≡_};
 ghost use Prim.Native.Nat.{_+_, _*_, _<_, _≤_};
 ghost use Rattle.reading.specs.Years.{base};
+ghost use Rattle.pulses.specs.Row.{firstData};
+ghost use Rattle.irig_table.specs.Table.{parity};
 ghost use Rattle.irig.specs.Meaning.{said, isSet, Small, dayIn, halvesIn, readingOf, secondOfDayAt};
 
 // The groups of data.
@@ -47,7 +49,7 @@ pub(crate) const SECOND_OF_DAY: usize = 23;
 // A group of four pulses at most.
 fn digit(v: [u32; 32], group: usize) -> u8
     requires { ⌜ Small v ⌝ }
-    requires { ⌜ (3 ≤ group) × (group ≤ 22) ⌝ }
+    requires { ⌜ (firstData ≤ group) × (group ≤ parity) ⌝ }
     ensures { λ r. ⌜ r ≡ said v group ⌝ }
     ensures { λ r. ⌜ r < 16 ⌝ }
 {
@@ -57,7 +59,7 @@ fn digit(v: [u32; 32], group: usize) -> u8
 // A decimal digit and the tens in the group after it.
 fn two(v: [u32; 32], group: usize) -> u8
     requires { ⌜ Small v ⌝ }
-    requires { ⌜ (3 ≤ group) × (group ≤ 21) ⌝ }
+    requires { ⌜ (firstData ≤ group) × (group < parity) ⌝ }
     ensures { λ r. ⌜ r ≡ said v group + 10 * said v (group + 1) ⌝ }
     ensures { λ r. ⌜ r < 166 ⌝ }
 {

@@ -1,41 +1,25 @@
-// The line that answers a case.
-use super::fields::reading_in;
+// The line that answers a case: which function is asked, by the case's number.
+use super::changes::every_change;
+use super::fed::fed_frames;
+use super::fed::fed_minutes;
 use super::line::put;
-use super::line::put_number;
-use reading::Refusal;
-use reading::Stamp;
-use reading::stamps::stamp_of;
+use super::readers::read_by;
+use super::stamped::stamped;
+use super::table::tabled;
+use super::writers::written;
 ghost use Rattle.vectors.specs.Line.{Kept};
-
-pub fn refused(out: &mut [u8], at: usize, r: Refusal) -> usize
-    ensures { λ r. ⌜ Kept r (now (out .entry)) (now (out .exit)) ⌝ }
-{
-    let a = put(out, at, b"no ");
-    let b = put_number(out, a, r.code as u64);
-    let c = put(out, b, b" ");
-    put_number(out, c, r.place as u64)
-}
-
-pub fn stamped(out: &mut [u8], payload: &[u8]) -> usize
-    ensures { λ r. ⌜ Kept r (now (out .entry)) (now (out .exit)) ⌝ }
-{
-    if payload.len() < 12 {
-        return put(out, 0, b"bad");
-    }
-    match stamp_of(reading_in(payload)) {
-        Stamp::At(n) => {
-            let a = put(out, 0, b"at ");
-            put_number(out, a, n)
-        }
-        Stamp::Refused(r) => refused(out, 0, r),
-    }
-}
 
 pub fn answer(out: &mut [u8], op: u8, payload: &[u8]) -> usize
     ensures { λ r. ⌜ Kept r (now (out .entry)) (now (out .exit)) ⌝ }
 {
     match op {
+        1..=4 => read_by(out, op, payload),
+        5..=8 => written(out, op, payload),
         9 => stamped(out, payload),
+        11 => fed_frames(out, payload),
+        12 => fed_minutes(out, payload),
+        14 => tabled(out),
+        20..=23 => every_change(out, op - 19, payload),
         _ => put(out, 0, b"bad"),
     }
 }

@@ -2,35 +2,48 @@
 use reading::AddedToLocal;
 use reading::LocalMinusUtc;
 use reading::Reading;
+ghost use mathlib.Core.Path.{_≡_};
+ghost use Rattle.vectors.specs.Payload.{byteAt, flagAt, pairAt, signed, readingIn};
 
 // The byte at a place; past the end it is 0.
-pub fn byte(payload: &[u8], at: usize) -> u8 {
-    if at < payload.len() { payload[at] } else { 0 }
+pub fn byte(payload: &[u8], at: usize) -> u8
+    ensures { λ r. ⌜ r ≡ byteAt (now (payload .entry)) at ⌝ }
+{
+    if at < payload.len() {
+        return payload[at];
+    }
+    0
 }
 
-pub fn flag(payload: &[u8], at: usize) -> bool {
+pub fn flag(payload: &[u8], at: usize) -> bool
+    ensures { λ r. ⌜ r ≡ flagAt (now (payload .entry)) at ⌝ }
+{
     byte(payload, at) != 0
 }
 
 // Two bytes, the lower first.
-pub fn pair(payload: &[u8], at: usize) -> u16 {
+pub fn pair(payload: &[u8], at: usize) -> u16
+    ensures { λ r. ⌜ r ≡ pairAt (now (payload .entry)) at ⌝ }
+{
     if at < payload.len() {
-        (byte(payload, at) as u16) + 256 * (byte(payload, at + 1) as u16)
-    } else {
-        0
+        return (byte(payload, at) as u16) + 256 * (byte(payload, at + 1) as u16);
     }
+    0
 }
 
 // An offset as a signed byte: from 128 on it lies west, and its opposite is added to local time.
-fn offset(b: u8) -> LocalMinusUtc {
+fn offset(b: u8) -> LocalMinusUtc
+    ensures { λ r. ⌜ r ≡ record { 0 = signed b } ⌝ }
+{
     if b < 128 {
-        LocalMinusUtc(b as i8)
-    } else {
-        AddedToLocal((256 - (b as u16)) as i16).local()
+        return LocalMinusUtc(b as i8);
     }
+    AddedToLocal((256 - (b as u16)) as i16).local()
 }
 
-pub fn reading_in(payload: &[u8]) -> Reading {
+pub fn reading_in(payload: &[u8]) -> Reading
+    ensures { λ r. ⌜ r ≡ readingIn (now (payload .entry)) ⌝ }
+{
     Reading {
         year: pair(payload, 0),
         month: byte(payload, 2),

@@ -3,6 +3,9 @@
 use wire::put::put_at;
 ghost use Rattle.vectors.specs.Line.{Kept};
 
+// From here on a line is long; the buffer is twice as large.
+const LONG: usize = 32768;
+
 pub fn put(out: &mut [u8], at: usize, word: &[u8]) -> usize
     ensures { λ r. ⌜ Kept r (now (out .entry)) (now (out .exit)) ⌝ }
 {
@@ -19,4 +22,52 @@ pub fn put_number(out: &mut [u8], at: usize, number: u64) -> usize
     let mut digits = [0u8; 20];
     let n = io::decimal(number, &mut digits);
     put(out, at, &digits[..n])
+}
+
+fn glyph(digit: u8) -> u8 {
+    if digit % 16 < 10 {
+        return 48 + digit % 16;
+    }
+    87 + digit % 16
+}
+
+fn put_byte(out: &mut [u8], at: usize, byte: u8) -> usize
+    ensures { λ r. ⌜ Kept r (now (out .entry)) (now (out .exit)) ⌝ }
+{
+    let pair = [glyph(byte / 16), glyph(byte % 16)];
+    put(out, at, &pair)
+}
+
+fn put_bytes(out: &mut [u8], at: usize, bytes: &[u8]) -> usize
+    ensures { λ r. ⌜ Kept r (now (out .entry)) (now (out .exit)) ⌝ }
+{
+    let mut end = put(out, at, b"");
+    let mut i = 0;
+    while i < bytes.len() {
+        end = put_byte(out, end, bytes[i]);
+        i += 1;
+    }
+    end
+}
+
+// Bytes in lower-case hexadecimal digits; a hyphen where there are none.
+pub fn put_hex(out: &mut [u8], at: usize, bytes: &[u8]) -> usize
+    ensures { λ r. ⌜ Kept r (now (out .entry)) (now (out .exit)) ⌝ }
+{
+    if bytes.len() == 0 {
+        return put(out, at, b"-");
+    }
+    put_bytes(out, at, bytes)
+}
+
+// A line that has grown long is written as far as it goes, and its rest starts at the buffer's start again.
+pub fn spill(out: &mut [u8], at: usize) -> usize
+    ensures { λ r. ⌜ Kept r (now (out .entry)) (now (out .exit)) ⌝ }
+{
+    let end = put(out, at, b"");
+    if end < LONG {
+        return end;
+    }
+    io::write_all(1, &out[..end]);
+    put(out, 0, b"")
 }

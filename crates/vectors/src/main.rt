@@ -1,26 +1,36 @@
 // Answers the cases that stand on standard input, a line each, with the proved functions. second/README.md says what a
 // case is; what this prints is compared with what the independent second program answers.
 mod answers;
+mod changes;
+mod fed;
 mod fields;
 mod line;
+mod readers;
+mod stamped;
+mod table;
+mod writers;
 
-// Reads a case, writes its answer, and says whether to go on.
+// Reads a case, writes its answer, and says whether to go on. A case that the end of the input cuts off is the last.
 fn one_case(space: &mut [u8], page: &mut [u8]) -> bool {
     let mut head = [0u8; 3];
     let got = io::read_full(0, &mut head);
+    if got == 0 {
+        return false;
+    }
     if got < 3 {
+        io::write_all(1, b"bad\n");
         return false;
     }
     let n = fields::pair(&head, 1) as isize;
     let whole = io::count(n, space);
     let came = io::read_full(0, &mut space[..whole]);
     if came < whole {
+        io::write_all(1, b"bad\n");
         return false;
     }
     let part = io::count(n, space);
-    let a = answers::answer(page, head[0], &space[..part]);
-    let end = line::put(page, a, b"\n");
-    io::write_all(1, &page[..end])
+    let end = answers::answer(page, head[0], &space[..part]);
+    io::write_all(1, &page[..end]) & io::write_all(1, b"\n")
 }
 
 // A proved loop has to end, so it counts down from a number that no run uses up.
