@@ -4,6 +4,7 @@ use mathlib.Core.List.{List, [], _∷_, _++_}
 use Prim.Native.Nat.{ℕ}
 use lib.ListN.{replicate}
 use Rattle.wire.specs.Layout.{exactly, from, either}
+pub use Rattle.strings.specs.Letters.{stx, etx, space, bang, hash, star, dot, colon, semicolon, letterA, letterS}
 
 -- the length of a string, and where in it how many bytes of position stand
 abbrev pub size : ℕ
@@ -15,50 +16,11 @@ positionAt = 41
 abbrev pub positionSize : ℕ
 positionSize = 26
 
--- the bytes that the paper names
-abbrev pub stx : ℕ
-stx = 2
-
-abbrev pub etx : ℕ
-etx = 3
-
-abbrev pub space : ℕ
-space = 32
-
-abbrev pub dot : ℕ
-dot = 46
-
-abbrev pub colon : ℕ
-colon = 58
-
-abbrev pub semicolon : ℕ
-semicolon = 59
-
 abbrev pub plus : ℕ
 plus = 43
 
 abbrev pub minus : ℕ
 minus = 45
-
--- a: the clock has failed
-abbrev pub hash : ℕ
-hash = 35
-
--- c: the clock is coasting
-abbrev pub star : ℕ
-star = 42
-
--- d: summer time
-abbrev pub letterS : ℕ
-letterS = 83
-
--- f: a change is announced
-abbrev pub bang : ℕ
-bang = 33
-
--- g: a leap second is announced
-abbrev pub letterA : ℕ
-letterA = 65
 
 -- i: this is a leap second
 abbrev pub letterL : ℕ

@@ -18,10 +18,7 @@ use Rattle.reading.specs.Universal.{dateOf}
 use Rattle.reading.specs.Checks.{checkedOf}
 use Rattle.erlangen.specs.Layout.{size, positionSize, stx, etx, space, dot, colon, semicolon, plus, minus, hash, star, letterS, bang, letterA, letterL}
 use Rattle.erlangen.specs.Offset.{isBehind, minutesOf}
-
--- a letter where its flag is set, else a space
-abbrev pub marked : Bool → ℕ → ℕ
-marked set letter = cond set letter space
+pub use Rattle.strings.specs.Letters.{mark}
 
 -- STX `dd.mm.yy; w; `
 unfoldable pub dateBytes : Reading → List ℕ
@@ -42,8 +39,8 @@ offsetBytes z =
 -- `acdfg i; `
 unfoldable pub flagBytes : Reading → Bool → List ℕ
 flagBytes r coasting =
-    marked (eqb (r .quality) 15) hash ∷ marked coasting star ∷ marked (r .summer) letterS ∷ marked (r .change) bang ∷ marked (r .leap) letterA ∷ space
-    ∷ marked (eqb (r .second) 60) letterL ∷ semicolon ∷ space ∷ []
+    mark (eqb (r .quality) 15) hash ∷ mark coasting star ∷ mark (r .summer) letterS ∷ mark (r .change) bang ∷ mark (r .leap) letterA ∷ space
+    ∷ mark (eqb (r .second) 60) letterL ∷ semicolon ∷ space ∷ []
 
 -- the 68 bytes, row by row
 unfoldable pub bytesOf : Reading → Bool → List ℕ → List ℕ

@@ -11,6 +11,7 @@ use reading::Verdict;
 use reading::Written;
 use reading::checks::checked;
 use reading::faults::refusal_of;
+use strings::letters::mark;
 use wire::digits::ones;
 use wire::digits::tens;
 use wire::layout::unprintable_at;
@@ -23,18 +24,9 @@ ghost use lib.ListN.{length, drop};
 ghost use Rattle.reading.specs.Years.{base};
 ghost use Rattle.reading.specs.Writing.{writtenOf, filled};
 ghost use Rattle.erlangen.specs.Layout.{size, positionSize, minus, plus};
-ghost use Rattle.erlangen.specs.Writing.{marked, dateBytes, timeBytes, offsetBytes, flagBytes, bytesOf, notCarried, lengthBad, carriedOf, writeFault};
+ghost use Rattle.erlangen.specs.Writing.{dateBytes, timeBytes, offsetBytes, flagBytes, bytesOf, notCarried, lengthBad, carriedOf, writeFault};
 
 const POSITION: usize = 26;
-
-fn marked(set: bool, letter: u8) -> u8
-    ensures { λ r. ⌜ r ≡ marked set letter ⌝ }
-{
-    if set {
-        return letter;
-    }
-    b' '
-}
 
 fn sign(behind: bool) -> u8
     ensures { λ r. ⌜ r ≡ cond behind minus plus ⌝ }
@@ -113,13 +105,13 @@ fn flag_bytes(r: Reading, coasting: bool) -> [u8; 9]
     let failed = r.quality == 15;
     let sixty = r.second == 60;
     [
-        marked(failed, b'#'),
-        marked(coasting, b'*'),
-        marked(r.summer, b'S'),
-        marked(r.change, b'!'),
-        marked(r.leap, b'A'),
+        mark(failed, b'#'),
+        mark(coasting, b'*'),
+        mark(r.summer, b'S'),
+        mark(r.change, b'!'),
+        mark(r.leap, b'A'),
         b' ',
-        marked(sixty, b'L'),
+        mark(sixty, b'L'),
         b';',
         b' ',
     ]

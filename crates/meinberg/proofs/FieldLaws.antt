@@ -52,20 +52,19 @@ digit-of-ones v h = let e : v % 10 ≡ v = omega arith in rw e (digit-back v h)
 -- ---- marks
 
 pub mark-is : (flag : Bool) (letter : ℕ) → (mark flag letter ≡ letter) ⊎ (mark flag letter ≡ space)
-unfolding mark
 mark-is true letter = inl refl
 mark-is false letter = inr refl
 
 -- u: quality 0 and 15
 pub quality-back : (q : ℕ) → q ≤ 15 → (leb 1 q && leb q 14) ≡ false → qualityOf (mark (eqb q 15) hash) ≡ q
-unfolding qualityOf mark
+unfolding qualityOf
 quality-back q h e = eqb→eq _ q (otherwise (leb 1 q && leb q 14) _ (at carries 16 tt q (omega arith)) e)
   where
     carries : ℕ → Bool
     carries q = where-not (leb 1 q && leb q 14) (eqb (qualityOf (mark (eqb q 15) hash)) q)
 
 pub failure-back : (u : ℕ) → (u ≡ hash) ⊎ (u ≡ space) → mark (eqb (qualityOf u) 15) hash ≡ u
-unfolding qualityOf mark
+unfolding qualityOf
 failure-back u (inl e) = rw e
 failure-back u (inr e) = rw e
 
@@ -76,12 +75,10 @@ quality-two u (inr e) = rw e (omega arith, refl)
 
 -- v: coasting
 pub coasting-back : (coasting : Bool) → eqb (mark coasting star) star ≡ coasting
-unfolding mark
 coasting-back true = refl
 coasting-back false = refl
 
 pub star-back : (v : ℕ) → (v ≡ star) ⊎ (v ≡ space) → mark (eqb v star) star ≡ v
-unfolding mark
 star-back v (inl e) = rw e
 star-back v (inr e) = rw e
 
@@ -90,21 +87,21 @@ abbrev pub AnnouncementByte : ℕ → Type 0
 AnnouncementByte y = (y ≡ bang) ⊎ ((y ≡ letterA) ⊎ (y ≡ space))
 
 pub announcement-is : (change leap : Bool) → AnnouncementByte (announcement change leap)
-unfolding announcement mark
+unfolding announcement
 announcement-is true leap = inl refl
 announcement-is false true = inr (inl refl)
 announcement-is false false = inr (inr refl)
 
 pub announced-back : (change leap : Bool) → (change && leap) ≡ false
     → (eqb (announcement change leap) bang ≡ change) × (eqb (announcement change leap) letterA ≡ leap)
-unfolding announcement mark
+unfolding announcement
 announced-back true true e = let z : _≡_ {A = ℕ} 0 1 = cc in clash z
 announced-back true false e = (refl, refl)
 announced-back false true e = (refl, refl)
 announced-back false false e = (refl, refl)
 
 pub announcement-back : (y : ℕ) → AnnouncementByte y → announcement (eqb y bang) (eqb y letterA) ≡ y
-unfolding announcement mark
+unfolding announcement
 announcement-back y (inl e) = rw e
 announcement-back y (inr (inl e)) = rw e
 announcement-back y (inr (inr e)) = rw e

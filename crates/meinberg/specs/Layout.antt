@@ -3,6 +3,7 @@ use mathlib.Core.List.{List, [], _∷_}
 use Prim.Native.Nat.{ℕ}
 use Rattle.wire.specs.Layout.{exactly, from, either, oneOf}
 use Rattle.strings.specs.declared.Places.{Places}
+pub use Rattle.strings.specs.Letters.{stx, etx, space, bang, hash, star, dot, colon, semicolon, letterA, letterS}
 
 -- "Meinberg, 32 bytes"
 abbrev pub textLength : ℕ
@@ -14,53 +15,9 @@ lastPlace = 31
 
 -- ---- the bytes
 
--- the control byte that starts the text
-abbrev pub stx : ℕ
-stx = 2
-
--- the control byte that ends the text
-abbrev pub etx : ℕ
-etx = 3
-
--- ` `
-abbrev pub space : ℕ
-space = 32
-
--- `!`
-abbrev pub bang : ℕ
-bang = 33
-
--- `#`
-abbrev pub hash : ℕ
-hash = 35
-
--- `*`
-abbrev pub star : ℕ
-star = 42
-
--- `.`
-abbrev pub dot : ℕ
-dot = 46
-
--- `:`
-abbrev pub colon : ℕ
-colon = 58
-
--- `;`
-abbrev pub semicolon : ℕ
-semicolon = 59
-
--- `A`
-abbrev pub letterA : ℕ
-letterA = 65
-
 -- `D`
 abbrev pub letterD : ℕ
 letterD = 68
-
--- `S`
-abbrev pub letterS : ℕ
-letterS = 83
 
 -- `T`
 abbrev pub letterT : ℕ

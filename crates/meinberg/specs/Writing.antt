@@ -30,10 +30,7 @@ use Rattle.meinberg.specs.Layout.{
   letterU,
 }
 use Rattle.meinberg.specs.Zones.{zoneCarried, zoneLetter}
-
--- a letter where a flag is set, else a space
-unfoldable pub mark : Bool → ℕ → ℕ
-mark flag letter = cond flag letter space
+pub use Rattle.strings.specs.Letters.{mark}
 
 -- the byte y: `!` a change, `A` a leap second, else a space
 unfoldable pub announcement : Bool → Bool → ℕ

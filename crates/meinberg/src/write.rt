@@ -10,6 +10,7 @@ use reading::Verdict;
 use reading::Written;
 use reading::checks::checked;
 use reading::faults::refusal_of;
+use strings::letters::mark;
 use wire::digits::ones;
 use wire::digits::tens;
 use wire::put::put_at;
@@ -21,7 +22,7 @@ ghost use Rattle.reading.specs.Universal.{dateOf};
 ghost use Rattle.reading.specs.Years.{base};
 ghost use Rattle.reading.specs.Writing.{writtenOf, filled};
 ghost use Rattle.meinberg.specs.Layout.{textLength};
-ghost use Rattle.meinberg.specs.Writing.{mark, announcement, yearDigits, bytesOf, notCarried, writeFault};
+ghost use Rattle.meinberg.specs.Writing.{announcement, yearDigits, bytesOf, notCarried, writeFault};
 
 fn not_carried(r: Reading) -> bool
     ensures { λ b. ⌜ b ≡ notCarried r ⌝ }
@@ -43,15 +44,6 @@ fn write_fault(r: Reading, room: usize) -> Verdict
         return Verdict::Bad(Fault::NotCarried);
     }
     Verdict::Good
-}
-
-fn mark(flag: bool, letter: u8) -> u8
-    ensures { λ b. ⌜ b ≡ mark flag letter ⌝ }
-{
-    if flag {
-        return letter;
-    }
-    b' '
 }
 
 fn announcement(change: bool, leap: bool) -> u8

@@ -1,5 +1,7 @@
 // What the clock strings share: the checks of a date and a time of day that were read off a string, in the order of their
 // codes and, within one code, of their places.
+pub mod letters;
+
 use calendar::Date;
 use calendar::days::weekday;
 use calendar::months::is_day;

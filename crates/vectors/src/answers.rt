@@ -6,6 +6,7 @@ use super::line::put;
 use super::readers::read_by;
 use super::stamped::stamped;
 use super::table::tabled;
+use super::writers::bridged;
 use super::writers::written;
 ghost use Rattle.vectors.specs.Line.{Kept};
 
@@ -16,6 +17,7 @@ pub fn answer(out: &mut [u8], op: u8, payload: &[u8]) -> usize
         1..=4 => read_by(out, op, payload),
         5..=8 => written(out, op, payload),
         9 => stamped(out, payload),
+        10 => bridged(out, payload),
         11 => fed_frames(out, payload),
         12 => fed_minutes(out, payload),
         14 => tabled(out),

@@ -6,6 +6,8 @@ use super::line::put;
 use super::line::put_hex;
 use super::line::put_number;
 use super::stamped::refused;
+use bridge::Kind;
+use bridge::bridge;
 use dcf77::Dcf77;
 use erlangen::Erlangen;
 use irig::Ieee1344;
@@ -56,10 +58,11 @@ fn write_part(format: u8, payload: &[u8], buffer: &mut [u8]) -> Written {
     write_by(format, payload, &mut buffer[..room])
 }
 
-fn put_part(out: &mut [u8], answer: Written, payload: &[u8], buffer: &[u8]) -> usize
+// As many bytes of the buffer as the writer was lent.
+fn put_part(out: &mut [u8], answer: Written, lent: u8, buffer: &[u8]) -> usize
     ensures { λ r. ⌜ Kept r (now (out .entry)) (now (out .exit)) ⌝ }
 {
-    let room = io::count(byte(payload, 14) as isize, buffer);
+    let room = io::count(lent as isize, buffer);
     put_written(out, answer, &buffer[..room])
 }
 
@@ -73,5 +76,39 @@ pub fn written(out: &mut [u8], format: u8, payload: &[u8]) -> usize
     let mut space = [165u8; 256];
     let buffer: &mut [u8] = &mut space;
     let answer = write_part(format, payload, buffer);
-    put_part(out, answer, payload, buffer)
+    put_part(out, answer, byte(payload, 14), buffer)
+}
+
+fn kind_of(payload: &[u8]) -> Kind {
+    if byte(payload, 0) == 1 {
+        return Kind::Meinberg;
+    }
+    Kind::Erlangen
+}
+
+// What stands behind the kind and the room.
+fn string_in(payload: &[u8]) -> &[u8] {
+    if payload.len() < 2 {
+        return &payload[0..0];
+    }
+    &payload[2..]
+}
+
+fn bridge_part(payload: &[u8], buffer: &mut [u8]) -> Written {
+    let room = io::count(byte(payload, 1) as isize, buffer);
+    bridge(kind_of(payload), string_in(payload), &mut buffer[..room])
+}
+
+// The bridge: a kind, 1 Meinberg or 2 Uni Erlangen, the buffer's length, and the string.
+pub fn bridged(out: &mut [u8], payload: &[u8]) -> usize
+    ensures { λ r. ⌜ Kept r (now (out .entry)) (now (out .exit)) ⌝ }
+{
+    let kind = byte(payload, 0);
+    if (payload.len() < 2) | (kind < 1) | (2 < kind) {
+        return put(out, 0, b"bad");
+    }
+    let mut space = [165u8; 256];
+    let buffer: &mut [u8] = &mut space;
+    let answer = bridge_part(payload, buffer);
+    put_part(out, answer, byte(payload, 1), buffer)
 }

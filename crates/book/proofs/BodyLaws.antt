@@ -1,0 +1,75 @@
+-- What a body that its reader accepts tells: its reading passes the checks of every reading, so that it has a stamp or is
+-- refused by 12 alone.
+use mathlib.Core.Path.{_≡_, refl}
+use mathlib.Core.Bool.{Bool, true, false, cond}
+use mathlib.Core.List.{List}
+use mathlib.Core.Logic.{_⊎_, inl, inr}
+use Prim.Native.Nat.{ℕ}
+use lib.Dec.{eqb}
+use Rattle.reading.specs.declared.Reading.{Reading}
+use Rattle.reading.specs.declared.Fault.the-variants.{OutsideStamps}
+use Rattle.reading.specs.declared.Verdict.the-variants.{Good}
+use Rattle.reading.specs.Faults.{number}
+use Rattle.reading.specs.Universal.{utcOf}
+use Rattle.reading.specs.Checks.{checkedOf}
+use Rattle.reading.specs.Stamps.{hasStamp, stampNumber}
+use Rattle.reading.proofs.CheckLaws.{clash}
+use Rattle.reading.proofs.StampLaws.{is-stamp, refused-by-12}
+use Rattle.strings.specs.declared.Answer.{Answer as StringAnswer}
+use Rattle.strings.specs.declared.Answer.the-variants.{Time as StringTime, No as StringNo}
+use Rattle.irig.specs.declared.Answer.{Answer as FrameAnswer}
+use Rattle.irig.specs.declared.Answer.the-variants.{Time as FrameTime, No as FrameNo}
+use Rattle.dcf77.specs.declared.Answer.{Answer as MinuteAnswer}
+use Rattle.dcf77.specs.declared.Answer.the-variants.{Time as MinuteTime, No as MinuteNo}
+use Rattle.meinberg.specs.Meaning.{readMeinberg}
+use Rattle.erlangen.specs.Meaning.{readErlangen}
+use Rattle.irig.specs.Faults.{readFrame}
+use Rattle.dcf77.specs.Reader.{readDcf77}
+use Rattle.meinberg.proofs.RoundTrip.{accepted-checked as meinberg-checked}
+use Rattle.erlangen.proofs.Promises.{accepted-checked as erlangen-checked}
+use Rattle.irig.proofs.RoundTrip.{accepted-checked as frame-checked}
+use Rattle.dcf77.proofs.RoundTrip.{accepted-checked as minute-checked}
+use Rattle.book.specs.declared.Said.the-variants.{Time}
+use Rattle.book.specs.declared.Record.the-variants.{Stamped, Refused}
+use Rattle.book.specs.Body.{ofString, ofFrame, ofMinute, readBody, recordOf}
+
+string-time : (a : StringAnswer) (r : Reading) → ofString a ≡ Time r → (c : Bool) × (a ≡ StringTime r c)
+string-time (StringTime q c) r e = (c, cc)
+string-time (StringNo x) r e = let z : _≡_ {A = ℕ} 0 1 = cc in clash z
+
+frame-time : (a : FrameAnswer) (r : Reading) → ofFrame a ≡ Time r → a ≡ FrameTime r
+frame-time (FrameTime q) r e = cc
+frame-time (FrameNo x) r e = let z : _≡_ {A = ℕ} 0 1 = cc in clash z
+
+minute-time : (a : MinuteAnswer) (r : Reading) → ofMinute a ≡ Time r → (h : ℕ) × (a ≡ MinuteTime r h)
+minute-time (MinuteTime q h) r e = (h, cc)
+minute-time (MinuteNo x) r e = let z : _≡_ {A = ℕ} 0 1 = cc in clash z
+
+pub accepted-checked : (base kind : ℕ) (s : List ℕ) (r : Reading) → readBody base kind s ≡ Time r → checkedOf base r ≡ Good
+unfolding readBody
+accepted-checked base kind s r e = go (eqb kind 1) (eqb kind 2) (eqb kind 3) e
+  where
+    go : (a b c : Bool)
+        → cond a (ofString (readMeinberg base s))
+        (cond b (ofString (readErlangen base s)) (cond c (ofFrame (readFrame base s)) (ofMinute (readDcf77 base s))))
+        ≡ Time r
+        → checkedOf base r ≡ Good
+    go true b c e = let p = string-time (readMeinberg base s) r e in meinberg-checked base s r (p .0) (p .1)
+    go false true c e = let p = string-time (readErlangen base s) r e in erlangen-checked base s r (p .0) (p .1)
+    go false false true e = frame-checked base s r (frame-time (readFrame base s) r e)
+    go false false false e = let p = minute-time (readDcf77 base s) r e in minute-checked base s r (p .0) (p .1)
+
+-- "An accepted body whose stamp is refused is listed as `no 12 0`."
+pub stamped-or-12 : (base kind : ℕ) (s : List ℕ) (r : Reading) → readBody base kind s ≡ Time r
+    → (recordOf base kind (readBody base kind s) ≡ Stamped kind (stampNumber (utcOf r) (r .second)))
+    ⊎ (recordOf base kind (readBody base kind s) ≡ Refused kind (number OutsideStamps))
+stamped-or-12 base kind s r e = go (hasStamp (utcOf r .date .year)) refl
+  where
+    checked : checkedOf base r ≡ Good
+    checked = accepted-checked base kind s r e
+
+    go : (b : Bool) → hasStamp (utcOf r .date .year) ≡ b
+        → (recordOf base kind (readBody base kind s) ≡ Stamped kind (stampNumber (utcOf r) (r .second)))
+        ⊎ (recordOf base kind (readBody base kind s) ≡ Refused kind (number OutsideStamps))
+    go true h = inl (rw (e, is-stamp base r (stampNumber (utcOf r) (r .second)) (record { checked = checked; year = h; value = refl })))
+    go false h = inr (rw (e, refused-by-12 base r checked h))

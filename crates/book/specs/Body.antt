@@ -1,0 +1,63 @@
+-- The body of a record: how long its kind makes it, what its reader says of it, and the record that this gives.
+use mathlib.Core.Bool.{cond}
+use mathlib.Core.List.{List}
+use Prim.Native.Nat.{ℕ}
+use lib.Dec.{eqb}
+use Rattle.reading.specs.declared.Stamp.{Stamp}
+use Rattle.reading.specs.declared.Stamp.the-variants.{At, Refused as NotStamped}
+use Rattle.reading.specs.Stamps.{stampOf}
+use Rattle.strings.specs.declared.Answer.{Answer as StringAnswer}
+use Rattle.strings.specs.declared.Answer.the-variants.{Time as StringTime, No as StringNo}
+use Rattle.irig.specs.declared.Answer.{Answer as FrameAnswer}
+use Rattle.irig.specs.declared.Answer.the-variants.{Time as FrameTime, No as FrameNo}
+use Rattle.dcf77.specs.declared.Answer.{Answer as MinuteAnswer}
+use Rattle.dcf77.specs.declared.Answer.the-variants.{Time as MinuteTime, No as MinuteNo}
+use Rattle.meinberg.specs.Layout.{textLength}
+use Rattle.meinberg.specs.Meaning.{readMeinberg}
+use Rattle.erlangen.specs.Layout.{size}
+use Rattle.erlangen.specs.Meaning.{readErlangen}
+use Rattle.irig.specs.Faults.{frameLength, readFrame}
+use Rattle.dcf77.specs.Forms.{shortLength, longLength}
+use Rattle.dcf77.specs.Reader.{readDcf77}
+use Rattle.book.specs.declared.Said.{Said}
+use Rattle.book.specs.declared.Said.the-variants.{Time, No}
+use Rattle.book.specs.declared.Record.{Record}
+use Rattle.book.specs.declared.Record.the-variants.{Stamped, Refused}
+
+-- "1 Meinberg 32, 2 Uni Erlangen 68, 3 IEEE 1344 100, 4 DCF77 60, 5 DCF77 61"; 0 for an unknown kind
+unfoldable pub bodyLength : ℕ → ℕ
+bodyLength kind =
+    cond (eqb kind 1) textLength
+    (cond (eqb kind 2) size (cond (eqb kind 3) frameLength (cond (eqb kind 4) shortLength (cond (eqb kind 5) longLength 0))))
+
+-- the time without the coasting mark that stands beside it
+abbrev pub ofString : StringAnswer → Said
+ofString (StringTime r coasting) = Time r
+ofString (StringNo x) = No x
+
+-- the time of a frame
+abbrev pub ofFrame : FrameAnswer → Said
+ofFrame (FrameTime r) = Time r
+ofFrame (FrameNo x) = No x
+
+-- the time without the head that stands beside it
+abbrev pub ofMinute : MinuteAnswer → Said
+ofMinute (MinuteTime r head) = Time r
+ofMinute (MinuteNo x) = No x
+
+-- what the reader of the kind says of a body; both lengths of DCF77 have one reader
+unfoldable pub readBody : ℕ → ℕ → List ℕ → Said
+readBody base kind s =
+    cond (eqb kind 1) (ofString (readMeinberg base s))
+    (cond (eqb kind 2) (ofString (readErlangen base s))
+    (cond (eqb kind 3) (ofFrame (readFrame base s)) (ofMinute (readDcf77 base s))))
+
+-- the stamp of an accepted body, or why it has none
+abbrev pub stamped : ℕ → Stamp → Record
+stamped kind (At n) = Stamped kind n
+stamped kind (NotStamped x) = Refused kind x
+
+-- the reader's refusal as it is; of an accepted body its stamp
+abbrev pub recordOf : ℕ → ℕ → Said → Record
+recordOf base kind (Time r) = stamped kind (stampOf base r)
+recordOf base kind (No x) = Refused kind x

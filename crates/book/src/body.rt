@@ -1,0 +1,84 @@
+// The body of a record: how long the kind makes it, and what its reader says of it.
+use super::Record;
+use super::Said;
+use dcf77::Dcf77;
+use erlangen::Erlangen;
+use irig::Ieee1344;
+use meinberg::Meinberg;
+use reading::Stamp;
+use reading::stamps::stamp_of;
+ghost use mathlib.Core.Path.{_≡_};
+ghost use Rattle.reading.specs.Years.{base};
+ghost use Rattle.book.specs.Body.{bodyLength, ofString, ofFrame, ofMinute, readBody, stamped, recordOf};
+
+// 0 for an unknown kind.
+pub fn body_length(kind: u8) -> usize
+    ensures { λ r. ⌜ r ≡ bodyLength kind ⌝ }
+{
+    match kind {
+        1 => Meinberg::LENGTH,
+        2 => Erlangen::LENGTH,
+        3 => Ieee1344::LENGTH,
+        4 => Dcf77::LENGTH,
+        5 => Dcf77::LONG_LENGTH,
+        _ => 0,
+    }
+}
+
+fn of_string(answer: strings::Answer) -> Said
+    ensures { λ r. ⌜ r ≡ ofString answer ⌝ }
+{
+    match answer {
+        strings::Answer::Time(reading, _) => Said::Time(reading),
+        strings::Answer::No(refusal) => Said::No(refusal),
+    }
+}
+
+fn of_frame(answer: irig::Answer) -> Said
+    ensures { λ r. ⌜ r ≡ ofFrame answer ⌝ }
+{
+    match answer {
+        irig::Answer::Time(reading) => Said::Time(reading),
+        irig::Answer::No(refusal) => Said::No(refusal),
+    }
+}
+
+fn of_minute(answer: dcf77::Answer) -> Said
+    ensures { λ r. ⌜ r ≡ ofMinute answer ⌝ }
+{
+    match answer {
+        dcf77::Answer::Time(reading, _) => Said::Time(reading),
+        dcf77::Answer::No(refusal) => Said::No(refusal),
+    }
+}
+
+// Where a kind is unknown no body is read; the definition gives such a body to the last reader.
+pub fn read_body(kind: u8, body: &[u8]) -> Said
+    ensures { λ r. ⌜ r ≡ readBody base kind (now (body .entry)) ⌝ }
+{
+    match kind {
+        1 => of_string(Meinberg::read(body)),
+        2 => of_string(Erlangen::read(body)),
+        3 => of_frame(Ieee1344::read(body)),
+        _ => of_minute(Dcf77::read(body)),
+    }
+}
+
+fn stamped(kind: u8, stamp: Stamp) -> Record
+    ensures { λ r. ⌜ r ≡ stamped kind stamp ⌝ }
+{
+    match stamp {
+        Stamp::At(number) => Record::Stamped(kind, number),
+        Stamp::Refused(refusal) => Record::Refused(kind, refusal),
+    }
+}
+
+// "An accepted body whose stamp is refused" is refused too.
+pub fn record_of(kind: u8, said: Said) -> Record
+    ensures { λ r. ⌜ r ≡ recordOf base kind said ⌝ }
+{
+    match said {
+        Said::Time(reading) => stamped(kind, stamp_of(reading)),
+        Said::No(refusal) => Record::Refused(kind, refusal),
+    }
+}

@@ -1,0 +1,124 @@
+-- What document 01 asks of the bridge, for any base year: the room is looked at first, then the string's own refusal goes
+-- through unchanged, and nothing else refuses; the frame that is written reads back as the reading that goes over.
+use mathlib.Core.Bool.{Bool, true, false, cond}
+use mathlib.Core.List.{List, _++_}
+use mathlib.Core.Logic.{_⊎_, inl, inr, _↔_}
+use mathlib.Core.Path.{_≡_, refl, _∙_}
+use Prim.Native.Nat.{ℕ, _≤_, _<_}
+use lib.Dec.{ltb}
+use lib.ListN.{length, take, drop}
+use lib.Seq.{take-at, drop-at}
+use borrow.Author.Tests.{lt-ltb, le-ltb, ltb-true, ltb-false}
+use Rattle.reading.specs.declared.Reading.{Reading}
+use Rattle.reading.specs.declared.Refusal.{Refusal}
+use Rattle.reading.specs.declared.Fault.the-variants.{Length}
+use Rattle.reading.specs.declared.Verdict.the-variants.{Good}
+use Rattle.reading.specs.declared.Written.the-variants.{Length as Wrote, No as Refused}
+use Rattle.reading.specs.Faults.{number}
+use Rattle.reading.specs.Checks.{checkedOf}
+use Rattle.reading.proofs.CheckLaws.{clash, checked-is}
+use Rattle.strings.specs.declared.Answer.{Answer}
+use Rattle.strings.specs.declared.Answer.the-variants.{Time, No}
+use Rattle.meinberg.proofs.RoundTrip.{accepted-checked as meinberg-checked}
+use Rattle.erlangen.proofs.Promises.{accepted-checked as erlangen-checked}
+use Rattle.irig.specs.declared.Answer.the-variants.{Time as Told}
+use Rattle.irig.specs.Faults.{frameLength, readFrame}
+use Rattle.irig.specs.Writing.{frameOf}
+use Rattle.irig.proofs.WriteLaws.{length-frame}
+use Rattle.irig.proofs.FrameLaws.{frame-read}
+use Rattle.bridge.specs.declared.Kind.{Kind}
+use Rattle.bridge.specs.declared.Kind.the-variants.{Meinberg, Erlangen}
+use Rattle.bridge.specs.Bridge.{pendingOf, readString, answerFor, bridgeAnswer, bridgeFilled}
+use Rattle.bridge.proofs.PendingLaws.{pending-checked}
+
+-- the reading of an accepted string passes the checks that every writer shares
+pub accepted-checked : (base : ℕ) (kind : Kind) (s : List ℕ) (r : Reading) (coasting : Bool) → readString base kind s ≡ Time r coasting
+    → checkedOf base r ≡ Good
+unfolding readString
+accepted-checked base Meinberg s r coasting e = meinberg-checked base s r coasting e
+accepted-checked base Erlangen s r coasting e = erlangen-checked base s r coasting e
+
+module _ (base : ℕ) (kind : Kind) (s : List ℕ) where
+  -- and so does what goes over, so that no frame is refused
+  pub carried-checked : (r : Reading) (coasting : Bool) → readString base kind s ≡ Time r coasting → checkedOf base (pendingOf r) ≡ Good
+  carried-checked r coasting e = pending-checked base r ∙ accepted-checked base kind s r coasting e
+
+  module _ (buffer : List ℕ) where
+    -- "The bridge checks output length first", whatever the string is
+    pub too-short-first : length buffer < frameLength
+        → (bridgeAnswer base kind s (length buffer) ≡ Refused (number Length)) × (bridgeFilled base kind s buffer ≡ buffer)
+    unfolding bridgeAnswer bridgeFilled
+    too-short-first h = rw (lt-ltb (length buffer) frameLength h) (refl, refl)
+
+    module _ (enough : frameLength ≤ length buffer) where
+      -- then the string's refusal, code and place
+      pub string-refusal-unchanged : (x : Refusal) → readString base kind s ≡ No x
+          → (bridgeAnswer base kind s (length buffer) ≡ Refused x) × (bridgeFilled base kind s buffer ≡ buffer)
+      unfolding bridgeAnswer bridgeFilled
+      string-refusal-unchanged x e = rw (le-ltb (length buffer) frameLength enough, e) (refl, refl)
+
+      module _ (r : Reading) (coasting : Bool) (accepted : readString base kind s ≡ Time r coasting) where
+        -- then success, "from the start of the buffer and no others"
+        pub accepted-written : (bridgeAnswer base kind s (length buffer) ≡ Wrote frameLength)
+            × (bridgeFilled base kind s buffer ≡ frameOf (pendingOf r) ++ drop frameLength buffer)
+        unfolding bridgeAnswer bridgeFilled
+        accepted-written = rw (le-ltb (length buffer) frameLength enough, accepted) (refl, refl)
+
+        pub rest-untouched : drop frameLength (bridgeFilled base kind s buffer) ≡ drop frameLength buffer
+        rest-untouched =
+            rw (accepted-written .1) (drop-at (frameOf (pendingOf r)) (drop frameLength buffer) frameLength (length-frame (pendingOf r)))
+
+        -- the frame says the string's reading, with what is pending
+        pub frame-reads-back : readFrame base (take frameLength (bridgeFilled base kind s buffer)) ≡ Told (pendingOf r)
+        frame-reads-back =
+            let p = pendingOf r in
+            rw (accepted-written .1, take-at (frameOf p) (drop frameLength buffer) frameLength (length-frame p))
+            (frame-read base p (checked-is base p (carried-checked r coasting accepted)))
+
+-- ---- what an answer tells
+
+module _ (base : ℕ) (kind : Kind) (s : List ℕ) where
+  -- nothing else refuses: a refusal is that of the room, or the string's own
+  pub refused-by : (room : ℕ) (x : Refusal) → bridgeAnswer base kind s room ≡ Refused x
+      → ((room < frameLength) × (x ≡ number Length)) ⊎ ((frameLength ≤ room) × (readString base kind s ≡ No x))
+  unfolding bridgeAnswer
+  refused-by room x e = go (ltb room frameLength) refl (readString base kind s) refl e
+    where
+      go : (b : Bool) → ltb room frameLength ≡ b → (a : Answer) → readString base kind s ≡ a
+          → cond b (Refused (number Length)) (answerFor a) ≡ Refused x
+          → ((room < frameLength) × (x ≡ number Length)) ⊎ ((frameLength ≤ room) × (readString base kind s ≡ No x))
+      go true short a q e = inl (ltb-true room frameLength short, cc)
+      go false wide (No y) q e = inr (ltb-false room frameLength wide, cc)
+      go false wide (Time r coasting) q e = let z : _≡_ {A = ℕ} 0 1 = cc in clash z
+
+  -- a string that says a time
+  abbrev pub Accepted : Type 0
+  Accepted = (r : Reading) × (coasting : Bool) × (readString base kind s ≡ Time r coasting)
+
+  -- a length is that of a frame, for an accepted string that has room
+  pub wrote-by : (room n : ℕ) → bridgeAnswer base kind s room ≡ Wrote n → (n ≡ frameLength) × (frameLength ≤ room) × Accepted
+  unfolding bridgeAnswer
+  wrote-by room n e = go (ltb room frameLength) refl (readString base kind s) refl e
+    where
+      go : (b : Bool) → ltb room frameLength ≡ b → (a : Answer) → readString base kind s ≡ a
+          → cond b (Refused (number Length)) (answerFor a) ≡ Wrote n → (n ≡ frameLength) × (frameLength ≤ room) × Accepted
+      go true short a q e = let z : _≡_ {A = ℕ} 0 1 = cc in clash z
+      go false wide (No y) q e = let z : _≡_ {A = ℕ} 0 1 = cc in clash z
+      go false wide (Time r coasting) q e = (cc, ltb-false room frameLength wide, (r, coasting, q))
+
+  module _ (buffer : List ℕ) where
+    -- success exactly where there is room and the string is accepted
+    pub exactly : (bridgeAnswer base kind s (length buffer) ≡ Wrote frameLength) ↔ ((frameLength ≤ length buffer) × Accepted)
+    exactly = (
+      λ e. (let w = wrote-by (length buffer) frameLength e in (w .1, w .2)),
+      λ a. accepted-written base kind s buffer (a .0) (a .1 .0) (a .1 .1) (a .1 .2) .0,
+    )
+
+    -- "A refusal leaves all lent memory untouched"
+    pub refused-untouched : (x : Refusal) → bridgeAnswer base kind s (length buffer) ≡ Refused x → bridgeFilled base kind s buffer ≡ buffer
+    refused-untouched x e = go (refused-by (length buffer) x e)
+      where
+        go : ((length buffer < frameLength) × (x ≡ number Length)) ⊎ ((frameLength ≤ length buffer) × (readString base kind s ≡ No x))
+            → bridgeFilled base kind s buffer ≡ buffer
+        go (inl a) = too-short-first base kind s buffer (a .0) .1
+        go (inr a) = string-refusal-unchanged base kind s buffer (a .0) x (a .1) .1

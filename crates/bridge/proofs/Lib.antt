@@ -1,0 +1,4 @@
+pub mod PendingLaws
+pub mod BridgeLaws
+pub mod Worked
+pub mod Unique

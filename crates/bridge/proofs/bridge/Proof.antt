@@ -1,0 +1,107 @@
+-- `bridge::bridge` meets its contract: the writer of the frame, which could refuse a reading, refuses none that a string says.
+-- Assumes nothing.
+use borrow.Author.Needs.{needs}
+use mathlib.Core.Bool.{Bool}
+use mathlib.Core.List.{List}
+use mathlib.Core.Path.{_≡_, sym, ap, _∙_}
+use Prim.Native.Nat.{ℕ, _≤_, _<_}
+use native.Mathlib.Omega.{arith}
+use lib.ListN.{length}
+use Rattle.reading.specs.declared.Reading.{Reading}
+use Rattle.reading.specs.declared.Refusal.{Refusal}
+use Rattle.reading.specs.declared.Fault.the-variants.{Length}
+use Rattle.reading.specs.declared.Written.{Written}
+use Rattle.reading.specs.declared.Written.the-variants.{No as Refused}
+use Rattle.reading.specs.Faults.{number}
+use Rattle.reading.specs.Writing.{writtenOf, filled}
+use Rattle.strings.specs.declared.Answer.{Answer}
+use Rattle.strings.specs.declared.Answer.the-variants.{Time, No}
+use Rattle.irig.specs.Faults.{frameLength}
+use Rattle.irig.specs.Writing.{frameOf, writeFault}
+use Rattle.irig.proofs.WriteLaws.{writable, written-frame}
+use Rattle.bridge.specs.declared.Kind.{Kind}
+use Rattle.bridge.specs.Bridge.{pendingOf, readString, bridgeAnswer, bridgeFilled}
+use Rattle.bridge.proofs.BridgeLaws.{carried-checked, too-short-first, string-refusal-unchanged, accepted-written}
+use Rattle.bridge.proofs.bridge.Statement.{statement}
+use Rattle.bridge.proofs.bridge.Tie as tie
+
+module _ (base : ℕ) (kind : Kind) (s out : List ℕ) where
+  -- an answer and a buffer are those of the definitions
+  abbrev Right : Written → List ℕ → Type 0
+  Right w after = (w ≡ bridgeAnswer base kind s (length out)) × (after ≡ bridgeFilled base kind s out)
+
+  too-short : (n : Refusal) → length out < frameLength → n ≡ number Length → Right (Refused n) out
+  too-short n h q = let l = too-short-first base kind s out h in (ap Refused q ∙ sym (l .0), sym (l .1))
+
+  module _ (enough : frameLength ≤ length out) (a : Answer) (is : a ≡ readString base kind s) where
+    refused : (x : Refusal) → a ≡ No x → Right (Refused x) out
+    refused x e = let l = string-refusal-unchanged base kind s out enough x (sym is ∙ e) in (sym (l .0), sym (l .1))
+
+    wrote : (r p : Reading) (coasting : Bool) (w : Written) (after : List ℕ) → a ≡ Time r coasting → p ≡ pendingOf r
+        → w ≡ writtenOf (writeFault base p (length out)) frameLength → after ≡ filled (writeFault base p (length out)) (frameOf p) out
+        → Right w after
+    wrote r p coasting w after e q answer bytes =
+        let read : readString base kind s ≡ Time r coasting = sym is ∙ e in
+        let l = accepted-written base kind s out enough r coasting read in
+        let good = writable base (pendingOf r) (length out) enough (carried-checked base kind s r coasting read) in
+        let f = written-frame base (pendingOf r) out good in
+        (answer ∙ rw q (f .0 ∙ sym (l .0)), bytes ∙ rw q (f .1 ∙ sym (l .1)))
+
+refusal-of-requires : tie.Need-refusal-of-requires
+refusal-of-requires c κs = search needs
+
+returns : tie.Need-returns
+returns c =
+    let a = c .before .before .before .before .args in
+    too-short _ (a .kind) (a .s .now) (a .out .now) _ (omega arith) (c .refusal-of .ensures)
+
+read-string-requires : tie.Need-read-string-requires
+read-string-requires c κs = search needs
+
+enum-known-answer : tie.Need-enum-known-answer
+enum-known-answer c = search needs
+
+pending-of-requires : tie.Need-pending-of-requires
+pending-of-requires c κs = search needs
+
+write-requires : tie.Need-write-requires
+write-requires c κs = search needs
+
+enum-known-answer-2 : tie.Need-enum-known-answer-2
+enum-known-answer-2 c = search needs
+
+same-length : tie.Need-same-length
+same-length c = search needs
+
+returns-2 : tie.Need-returns-2
+returns-2 c =
+    let w = c .before .before in
+    let p = w .before .before in
+    let k = p .before .before in
+    let t = k .before .before in
+    let a = t .before .before .before .before .args in
+    wrote _ (a .kind) (a .s .now) (a .out .now) (omega arith) (t .read-string .result) (t .read-string .ensures)
+    (k .answer .given .0 .0) (p .pending-of .result) (k .answer .given .0 .1 .0) (w .write .result) (w .write .last .1 .0) (cc) (p .pending-of .ensures)
+    (w .write .ensures .0) (w .write .ensures .1)
+
+returns-3 : tie.Need-returns-3
+returns-3 c =
+    let t = c .before .before .before in
+    let a = t .before .before .before .before .args in
+    refused _ (a .kind) (a .s .now) (a .out .now) (omega arith) (t .read-string .result) (t .read-string .ensures)
+    (c .before .answer2 .given .0 .0) (cc)
+
+pub bridge-spec : {M : Type 1} → statement M
+bridge-spec =
+    tie.close
+    (tie.spec
+    refusal-of-requires
+    returns
+    read-string-requires
+    enum-known-answer
+    pending-of-requires
+    write-requires
+    enum-known-answer-2
+    same-length
+    returns-2
+    returns-3)

@@ -1,0 +1,62 @@
+-- What the bridge makes of a string: its answer, and what the lent buffer then holds.
+use mathlib.Core.Bool.{cond, _&&_}
+use mathlib.Core.List.{List, _++_}
+use Prim.Native.Nat.{ℕ}
+use lib.Dec.{ltb}
+use lib.ListN.{length, drop}
+use Rattle.reading.specs.declared.Reading.{Reading}
+use Rattle.reading.specs.declared.Fault.the-variants.{Length}
+use Rattle.reading.specs.declared.Written.{Written}
+use Rattle.reading.specs.declared.Written.the-variants.{Length as Wrote, No as Refused}
+use Rattle.reading.specs.Faults.{number}
+use Rattle.reading.specs.Universal.{utcOf}
+use Rattle.reading.specs.Leap.{leapWindow, changeWindow}
+use Rattle.strings.specs.declared.Answer.{Answer}
+use Rattle.strings.specs.declared.Answer.the-variants.{Time, No}
+use Rattle.meinberg.specs.Meaning.{readMeinberg}
+use Rattle.erlangen.specs.Meaning.{readErlangen}
+use Rattle.irig.specs.Faults.{frameLength}
+use Rattle.irig.specs.Writing.{frameOf}
+use Rattle.bridge.specs.declared.Kind.{Kind}
+use Rattle.bridge.specs.declared.Kind.the-variants.{Meinberg, Erlangen}
+
+-- "Leap pending is set exactly when leap is announced and UTC is 23:59:01..23:59:59 on 30 June or 31 December; change pending
+-- exactly when change is announced and local minute is 59, second 1..59. All else of the reading goes over as it is."
+unfoldable pub pendingOf : Reading → Reading
+pendingOf r =
+    record {
+      year = r .year;
+      month = r .month;
+      day = r .day;
+      hour = r .hour;
+      minute = r .minute;
+      second = r .second;
+      offset = r .offset;
+      summer = r .summer;
+      leap = r .leap && leapWindow (utcOf r) (r .second);
+      change = r .change && changeWindow (r .minute) (r .second);
+      quality = r .quality;
+    }
+
+-- what the reader of the named kind answers to the string s
+unfoldable pub readString : ℕ → Kind → List ℕ → Answer
+readString base Meinberg s = readMeinberg base s
+readString base Erlangen s = readErlangen base s
+
+-- the answer where there is room: the length of a frame, or the string's own refusal
+abbrev pub answerFor : Answer → Written
+answerFor (Time r coasting) = Wrote frameLength
+answerFor (No refusal) = Refused refusal
+
+-- the buffer where there is room: the frame before the rest, "coasting dropped"; a refusal leaves it as it was
+abbrev pub bytesFor : Answer → List ℕ → List ℕ
+bytesFor (Time r coasting) buffer = frameOf (pendingOf r) ++ drop frameLength buffer
+bytesFor (No refusal) buffer = buffer
+
+-- "The bridge checks output length first."
+unfoldable pub bridgeAnswer : ℕ → Kind → List ℕ → ℕ → Written
+bridgeAnswer base kind s room = cond (ltb room frameLength) (Refused (number Length)) (answerFor (readString base kind s))
+
+-- what the buffer holds afterwards
+unfoldable pub bridgeFilled : ℕ → Kind → List ℕ → List ℕ → List ℕ
+bridgeFilled base kind s buffer = cond (ltb (length buffer) frameLength) buffer (bytesFor (readString base kind s) buffer)

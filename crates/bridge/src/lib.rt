@@ -1,0 +1,67 @@
+// The bridge: reads a string of a named kind and writes the IEEE 1344 frame of its reading. The coasting mark is dropped,
+// and the two announcements go over only in the minute before they come true.
+use erlangen::Erlangen;
+use irig::Ieee1344;
+use meinberg::Meinberg;
+use reading::Fault;
+use reading::Reading;
+use reading::Written;
+use reading::faults::refusal_of;
+use reading::leap::change_window;
+use reading::leap::leap_window;
+use reading::universal::utc_of;
+use strings::Answer;
+ghost use mathlib.Core.Path.{_≡_};
+ghost use lib.ListN.{length};
+ghost use Rattle.reading.specs.Years.{base};
+ghost use Rattle.bridge.specs.Bridge.{pendingOf, readString, bridgeAnswer, bridgeFilled};
+
+// The strings that can be carried over.
+pub enum Kind {
+    Meinberg,
+    Erlangen,
+}
+
+// A refusal leaves `out` as it was. The room is looked at before the string.
+pub fn bridge(kind: Kind, s: &[u8], out: &mut [u8]) -> Written
+    ensures { λ w. ⌜ w ≡ bridgeAnswer base kind (now (s .entry)) (length (now (out .entry))) ⌝ }
+    ensures { λ w. ⌜ now (out .exit) ≡ bridgeFilled base kind (now (s .entry)) (now (out .entry)) ⌝ }
+{
+    if out.len() < Ieee1344::LENGTH {
+        return Written::No(refusal_of(Fault::Length));
+    }
+    let answer = read_string(kind, s);
+    match answer {
+        Answer::Time(r, _) => Ieee1344::write(pending_of(r), out),
+        Answer::No(refusal) => Written::No(refusal),
+    }
+}
+
+fn read_string(kind: Kind, s: &[u8]) -> Answer
+    ensures { λ a. ⌜ a ≡ readString base kind (now (s .entry)) ⌝ }
+{
+    match kind {
+        Kind::Meinberg => Meinberg::read(s),
+        Kind::Erlangen => Erlangen::read(s),
+    }
+}
+
+// A string announces well ahead; a frame says that something is pending in the last minute alone.
+fn pending_of(r: Reading) -> Reading
+    ensures { λ p. ⌜ p ≡ pendingOf r ⌝ }
+{
+    let offset = r.offset;
+    Reading {
+        year: r.year,
+        month: r.month,
+        day: r.day,
+        hour: r.hour,
+        minute: r.minute,
+        second: r.second,
+        offset,
+        summer: r.summer,
+        leap: r.leap & leap_window(utc_of(r), r.second),
+        change: r.change & change_window(r.minute, r.second),
+        quality: r.quality,
+    }
+}
