@@ -3,7 +3,7 @@ Reads and writes it from a dictionary of fields, each a list of (mark, weight)."
 
 from typing import Union
 
-from layout import (digit_over_nine, digits_that_can_exceed, field_value, lowest_bad_place,
+from layout import (digit_over_nine, digits_that_can_exceed, field_value, form_refusal,
                     ones_are_odd, put_field)
 from reading import (FIRST_YEAR, Answer, Reading, Refusal, Told, after_leap_minute,
                      fields_refusal, reading_refusal, weekday)
@@ -56,9 +56,9 @@ def read(marks: bytes) -> Answer:
     """The reading of the named minute with the head beside it, or the lowest refusal."""
     if len(marks) not in ALLOWED:
         return Refusal(1)
-    place = lowest_bad_place(marks, ALLOWED[len(marks)])
-    if place is not None:
-        return Refusal(2, place)
+    refusal = form_refusal(marks, ALLOWED[len(marks)])
+    if refusal is not None:
+        return refusal
     if digit_over_nine(marks, DIGITS):
         return Refusal(3)
     if any(ones_are_odd(marks, group) for group in PARITY_GROUPS.values()):

@@ -3,7 +3,7 @@ Reads and writes it, and hands back the position part, as document 01 draws it."
 
 from typing import Optional, Union
 
-from layout import lowest_bad_place, text_number
+from layout import form_refusal, text_number
 from reading import (FAILED, FIRST_YEAR, LOCKED, Answer, Reading, Refusal, Told,
                      fields_refusal, offset_refusal, reading_refusal, second_refusal, weekday)
 
@@ -37,11 +37,9 @@ def said_offset(data: bytes) -> Optional[int]:
 
 def read(data: bytes) -> Answer:
     """The reading with coasting beside it, or the lowest refusal."""
-    if len(data) != LENGTH:
-        return Refusal(1)
-    place = lowest_bad_place(data, ALLOWED)
-    if place is not None:
-        return Refusal(2, place)
+    refusal = form_refusal(data, ALLOWED)
+    if refusal is not None:
+        return refusal
     reading = Reading(
         FIRST_YEAR + text_number(data, 7), text_number(data, 4), text_number(data, 1),
         text_number(data, 14), text_number(data, 17), text_number(data, 20),

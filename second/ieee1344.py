@@ -4,7 +4,7 @@ Reads and writes it from a dictionary of fields, each a list of (pulse, weight).
 from datetime import timedelta, date
 from typing import Optional, Union
 
-from layout import (digit_over_nine, digits_that_can_exceed, field_value, lowest_bad_place,
+from layout import (digit_over_nine, digits_that_can_exceed, field_value, form_refusal,
                     ones_are_odd, put_field)
 from reading import (FIRST_YEAR, Answer, Reading, Refusal, Told, fields_refusal, offset_refusal,
                      reading_refusal, second_of_day, second_refusal)
@@ -64,11 +64,9 @@ def said_added(pulses: bytes) -> Optional[int]:
 
 def read(pulses: bytes) -> Answer:
     """The reading, or the lowest refusal."""
-    if len(pulses) != LENGTH:
-        return Refusal(1)
-    place = lowest_bad_place(pulses, ALLOWED)
-    if place is not None:
-        return Refusal(2, place)
+    refusal = form_refusal(pulses, ALLOWED)
+    if refusal is not None:
+        return refusal
     if digit_over_nine(pulses, DIGITS):
         return Refusal(3)
     if ones_are_odd(pulses, PARITY_PLACES):

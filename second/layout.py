@@ -3,6 +3,8 @@ A pulse field is a list of (pulse, weight); its value is the sum of the weights 
 
 from typing import FrozenSet, Iterable, List, Optional, Sequence, Tuple
 
+from reading import Refusal
+
 Field = Sequence[Tuple[int, int]]
 
 
@@ -12,6 +14,14 @@ def lowest_bad_place(data: bytes, allowed: Sequence[FrozenSet[int]]) -> Optional
         if data[place] not in good:
             return place
     return None
+
+
+def form_refusal(data: bytes, allowed: Sequence[FrozenSet[int]]) -> Optional[Refusal]:
+    """Code 1 for another length than that of the layout, code 2 at the lowest bad place."""
+    if len(data) != len(allowed):
+        return Refusal(1)
+    place = lowest_bad_place(data, allowed)
+    return None if place is None else Refusal(2, place)
 
 
 def text_number(data: bytes, start: int, length: int = 2) -> int:

@@ -3,7 +3,7 @@ Reads and writes it as document 01 draws it."""
 
 from typing import Union
 
-from layout import lowest_bad_place, text_number
+from layout import form_refusal, text_number
 from reading import (FAILED, FIRST_YEAR, LOCKED, Answer, Reading, Refusal, Told,
                      fields_refusal, reading_refusal, second_refusal, weekday)
 
@@ -23,11 +23,9 @@ ANNOUNCEMENTS = {"!": (False, True), "A": (True, False), " ": (False, False)}
 
 def read(data: bytes) -> Answer:
     """The reading with coasting beside it, or the lowest refusal."""
-    if len(data) != LENGTH:
-        return Refusal(1)
-    place = lowest_bad_place(data, ALLOWED)
-    if place is not None:
-        return Refusal(2, place)
+    refusal = form_refusal(data, ALLOWED)
+    if refusal is not None:
+        return refusal
     offset, summer = ZONES[chr(data[29])]
     leap, change = ANNOUNCEMENTS[chr(data[30])]
     reading = Reading(
