@@ -4,9 +4,9 @@ use mathlib.Core.List.{List}
 use mathlib.Core.Path.{_≡_, refl, sym, _∙_}
 use Prim.Native.Nat.{ℕ, _<_, _≤_}
 use native.Mathlib.Omega.{arith}
-use native.Mathlib.Nat.{le-antisymm}
+use native.Mathlib.Nat.{le-antisymm, lt-of-lt-of-le}
 use borrow.Author.Tests.{lt-ltb, le-ltb, ltb-false, eqb-true, not-false}
-use lib.Dec.{ltb, eqb}
+use lib.Dec.{ltb, eqb, lit≤}
 use lib.ListN.{length, getD}
 use Rattle.reading.specs.declared.Reading.{Reading}
 use Rattle.reading.specs.declared.Refusal.{Refusal}
@@ -15,14 +15,37 @@ use Rattle.reading.specs.declared.Verdict.{Verdict}
 use Rattle.reading.specs.declared.Verdict.the-variants.{Good, Bad}
 use Rattle.reading.specs.Faults.{number}
 use Rattle.reading.proofs.CheckLaws.{first-good, clash}
-use Rattle.pulses.specs.Row.{goodPulses}
+use Rattle.pulses.specs.declared.Scan.{Scan}
+use Rattle.pulses.specs.Row.{goodPulses, scanOf}
+use Rattle.pulses.proofs.ScanLaws.{scan-good, scan-sums}
 use Rattle.pulses.proofs.GoodLaws.{good-in-row}
-use Rattle.dcf77_table.specs.Table.{head}
+use Rattle.dcf77_table.specs.Table.{head, minuteMarks}
+use Rattle.dcf77_table.specs.Values.{Proper}
+use Rattle.dcf77_table.proofs.ValueLaws.{few, said-proper, head-small}
 use Rattle.dcf77.specs.declared.Answer.{Answer}
 use Rattle.dcf77.specs.declared.Answer.the-variants.{Time, No}
 use Rattle.dcf77.specs.Forms.{shortLength, longLength, lengthOf}
 use Rattle.dcf77.specs.Reader.{isLong, tableFor, says, readingOf, lengthBad, saidFault, readFault, answerOf, readDcf77}
 use Rattle.dcf77.proofs.SoundLaws.{Sound, sound, faultless}
+
+-- ---- what a pass over the marks has found
+
+module _ (s : List ℕ) (x : Scan) (e : x ≡ scanOf (minuteMarks (eqb (length s) longLength)) s) where
+  pub found-good : x .good ≡ goodPulses (tableFor s) s
+  unfolding tableFor isLong
+  found-good = scan-good (tableFor s) s (few (isLong (length s))) x e
+
+  pub found-sums : length s ≤ x .good → x .sums ≡ says s
+  unfolding tableFor isLong says
+  found-sums h = scan-sums (tableFor s) s (few (isLong (length s))) x e h
+
+  pub found-proper : Proper (x .sums)
+  unfolding scanOf
+  found-proper = rw e (said-proper (eqb (length s) longLength) _)
+
+  pub found-head : getD (x .sums) head 0 < 65536
+  unfolding scanOf
+  found-head = rw e (lt-of-lt-of-le (head-small (eqb (length s) longLength) _) (lit≤ tt))
 
 -- ---- the reader, answer by answer
 

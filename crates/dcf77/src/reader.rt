@@ -187,11 +187,12 @@ impl Dcf77 {
             return Answer::No(refusal_of(Fault::Length));
         }
         let long = s.len() == Dcf77::LONG_LENGTH;
-        let good = dcf77_table::good_marks(long, s);
+        let scan = dcf77_table::scanned(long, s);
+        let good = scan.good;
         if good < s.len() {
             return Answer::No(refusal_of(Fault::Byte(good)));
         }
-        let v = dcf77_table::sums(long, s);
+        let v = scan.sums;
         let r = reading_of(v);
         told(said_fault(s, v, r), r, v[groups::HEAD] as u16)
     }

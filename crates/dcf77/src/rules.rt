@@ -70,7 +70,10 @@ pub(super) fn length_of(long: bool) -> usize
 pub(super) fn due_long(r: Reading) -> bool
     ensures { λ b. ⌜ b ≡ dueLong r ⌝ }
 {
-    r.leap & after_leap(utc_of(r))
+    if r.leap {
+        return after_leap(utc_of(r));
+    }
+    false
 }
 
 // The fault, where there is one, before whatever comes after it: the checks are put together from the last to the first.

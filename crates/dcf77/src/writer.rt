@@ -18,11 +18,11 @@ use reading::Written;
 use reading::checks::checked;
 use reading::faults::written;
 ghost use mathlib.Core.Path.{_≡_};
-ghost use mathlib.Core.Bool.{cond};
+ghost use mathlib.Core.Bool.{false, cond};
 ghost use Prim.Native.Nat.{_≤_};
 ghost use lib.ListN.{length};
 ghost use Rattle.laws.proofs.Signed.{same};
-ghost use Rattle.pulses.specs.Row.{laid};
+ghost use Rattle.pulses.specs.Row.{row, laid};
 ghost use Rattle.reading.specs.Years.{base};
 ghost use Rattle.reading.specs.Writing.{writtenOf, filled};
 ghost use Rattle.dcf77_table.specs.Table.{minuteMarks};
@@ -72,31 +72,26 @@ fn plain_values(r: Reading, head: u16) -> [u32; 32]
 }
 
 // The mark at `to` that makes the ones from `from` on even in number.
-fn evened(s: &[u8], from: usize, to: usize) -> u32
+fn evened(s: &[u8], from: usize, to: usize) -> u8
     requires { ⌜ from ≤ to ⌝ }
     ensures { λ r. ⌜ r ≡ evened from to (now (s .entry)) ⌝ }
 {
-    pulses::ones(s, from, to - from) % 2
+    (pulses::ones(s, from, to - from) % 2) as u8
 }
 
-fn with_parity(v: [u32; 32], s: &[u8]) -> [u32; 32]
-    ensures { λ r. ⌜ r ≡ withParity v (now (s .entry)) ⌝ }
+// Stores the minute whose groups say the values, where it fits: laid with the parity marks 0, to count the ones of the others.
+fn lay_minute(out: &mut [u8], long: bool, plain: [u32; 32])
+    ensures { λ u. ⌜ now (out .exit) ≡ laid (minuteMarks long) (withParity plain (row (minuteMarks false) plain)) (now (out .entry)) ⌝ }
 {
-    let mut w = v;
-    w[groups::MINUTE_PARITY] = evened(s, places::MINUTE, places::MINUTE_PARITY);
-    w[groups::HOUR_PARITY] = evened(s, places::HOUR, places::HOUR_PARITY);
-    w[groups::DATE_PARITY] = evened(s, places::DAY, places::DATE_PARITY);
-    w
-}
-
-// The marks are laid with the parities left 0 first, to count their ones.
-fn values_of(r: Reading, head: u16) -> [u32; 32]
-    ensures { λ v. ⌜ v ≡ valuesOf r head ⌝ }
-{
-    let plain = plain_values(r, head);
-    let mut marks = [0u8; 60];
-    dcf77_table::lay(&mut marks, false, plain);
-    with_parity(plain, &marks)
+    if !dcf77_table::lay(out, long, plain) {
+        return;
+    }
+    let minute = evened(out, places::MINUTE, places::MINUTE_PARITY);
+    let hour = evened(out, places::HOUR, places::HOUR_PARITY);
+    let date = evened(out, places::DAY, places::DATE_PARITY);
+    out[places::MINUTE_PARITY] = minute;
+    out[places::HOUR_PARITY] = hour;
+    out[places::DATE_PARITY] = date;
 }
 
 // A head that is too large is judged where a quality is: by the shared checks, of the reading with a quality too large.
@@ -153,14 +148,14 @@ fn room_fault(verdict: Verdict, long: bool, room: usize) -> Verdict
     first(room < needed(verdict, long), Fault::Length, verdict)
 }
 
-// Stores the minute whose groups say the values, where nothing was refused.
-fn store(good: bool, out: &mut [u8], long: bool, values: [u32; 32])
-    ensures { λ u. ⌜ now (out .exit) ≡ cond good (laid (minuteMarks long) values (now (out .entry))) (now (out .entry)) ⌝ }
+// Stores the minute of a reading and a head, where nothing was refused.
+fn store(good: bool, out: &mut [u8], long: bool, r: Reading, head: u16)
+    ensures { λ u. ⌜ now (out .exit) ≡ cond good (laid (minuteMarks long) (valuesOf r head) (now (out .entry))) (now (out .entry)) ⌝ }
 {
     if !good {
         return;
     }
-    dcf77_table::lay(out, long, values);
+    lay_minute(out, long, plain_values(r, head));
 }
 
 impl Dcf77 {
@@ -170,7 +165,7 @@ impl Dcf77 {
     {
         let long = due_long(r);
         let verdict = room_fault(carry_fault(r, head), long, out.len());
-        store(is_good(verdict), out, long, values_of(r, head));
+        store(is_good(verdict), out, long, r, head);
         written(verdict, length_of(long))
     }
 }

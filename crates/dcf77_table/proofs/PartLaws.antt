@@ -1,17 +1,19 @@
 -- The three parts of a minute that a parity mark closes: the marks before it hold data, and it makes the ones even in number.
-use mathlib.Core.Bool.{Bool, false, not, _&&_, _||_}
+use mathlib.Core.Bool.{Bool, true, false, not, _&&_, _||_}
 use mathlib.Core.List.{List}
 use mathlib.Core.Path.{_≡_, refl, sym, ap, _∙_}
 use Prim.Native.Nat.{ℕ, suc, _+_, _-_, _<_, _≤_}
 use native.Mathlib.Omega.{arith}
-use lib.Dec.{T, leb, eqb, leb→le}
-use lib.ListN.{getD}
+use borrow.Author.Tests.{eq-eqb}
+use lib.Dec.{T, leb, eqb, leb→le, eqb→eq}
+use lib.ListN.{length, getD}
+use Rattle.laws.proofs.Bools.{where-so, then, holds}
 use Rattle.laws.proofs.Tested.{below, at, and-left}
 use Rattle.pulses.specs.Row.{groups, firstData, groupOf, weightOf, pulseFor, row, onesFrom}
 use Rattle.pulses.proofs.EntryLaws.{group-small, pulse-for-same, pulse-data}
-use Rattle.pulses.proofs.RowLaws.{pulse-at}
+use Rattle.pulses.proofs.RowLaws.{Alone, pulse-at}
 use Rattle.pulses.proofs.OnesLaws.{ones-same, ones-more}
-use Rattle.dcf77_table.specs.Table.{minuteParity, hourParity, dateParity, sharedMarks, minuteMarks}
+use Rattle.dcf77_table.specs.Table.{minuteParity, hourParity, dateParity, sharedMarks, lastMarks, minuteMarks}
 use Rattle.dcf77_table.proofs.TableLaws.{shared-length, long-enough, marks-shared}
 
 -- a group of data that is no parity
@@ -30,6 +32,7 @@ pub record Part (a b g : ℕ) : Type 0 where
   pub parity : groupAt b ≡ g
   pub weight : weightOf (getD sharedMarks b 0) ≡ 1
   pub known : firstData ≤ g
+  pub only : (long : Bool) (i : ℕ) → i < length (minuteMarks long) → groupOf (getD (minuteMarks long) i 0) ≡ g → i ≡ b
 
 -- two lists of values say the same but for the parities
 abbrev pub SamePlain : List ℕ → List ℕ → Type 0
@@ -40,20 +43,36 @@ SamePlain v w = (g : ℕ) → g < groups → T (isPlain g) → getD v g 0 ≡ ge
 plain-test : (a n : ℕ) → T (below (λ i. isPlain (groupAt (a + i))) n) → (i : ℕ) → i < n → T (isPlain (groupAt (a + i)))
 plain-test a n t i h = at (λ i. isPlain (groupAt (a + i))) n t i h
 
+-- the mark at place b is the only one of group g
+only-test : ℕ → ℕ → Bool → Bool
+only-test b g long = below (λ i. where-so (eqb (groupOf (getD (minuteMarks long) i 0)) g) (eqb i b)) (length (minuteMarks long))
+
+only-at : (b g : ℕ) → T (only-test b g true) → T (only-test b g false) → (long : Bool) (i : ℕ) → i < length (minuteMarks long)
+    → groupOf (getD (minuteMarks long) i 0) ≡ g → i ≡ b
+unfolding only-test
+only-at b g x y long i h e =
+    let m = eqb (groupOf (getD (minuteMarks long) i 0)) g in
+    let t = at (λ i. where-so (eqb (groupOf (getD (minuteMarks long) i 0)) g) (eqb i b)) (length (minuteMarks long)) (either long) i h in
+    eqb→eq i b (then m (eqb i b) t (holds m (eq-eqb (groupOf (getD (minuteMarks long) i 0)) g e)))
+  where
+    either : (long : Bool) → T (only-test b g long)
+    either true = x
+    either false = y
+
 pub minute-part : Part 21 28 minuteParity
-unfolding sharedMarks groupOf weightOf isPlain
+unfolding sharedMarks lastMarks minuteMarks groupOf weightOf isPlain only-test
 minute-part =
-    record { from = omega arith; to = omega arith; plain = plain-test 21 7 tt; parity = refl; weight = refl; known = omega arith }
+    record { from = omega arith; to = omega arith; plain = plain-test 21 7 tt; parity = refl; weight = refl; known = omega arith; only = only-at 28 minuteParity tt tt }
 
 pub hour-part : Part 29 35 hourParity
-unfolding sharedMarks groupOf weightOf isPlain
+unfolding sharedMarks lastMarks minuteMarks groupOf weightOf isPlain only-test
 hour-part =
-    record { from = omega arith; to = omega arith; plain = plain-test 29 6 tt; parity = refl; weight = refl; known = omega arith }
+    record { from = omega arith; to = omega arith; plain = plain-test 29 6 tt; parity = refl; weight = refl; known = omega arith; only = only-at 35 hourParity tt tt }
 
 pub date-part : Part 36 58 dateParity
-unfolding sharedMarks groupOf weightOf isPlain
+unfolding sharedMarks lastMarks minuteMarks groupOf weightOf isPlain only-test
 date-part =
-    record { from = omega arith; to = omega arith; plain = plain-test 36 22 tt; parity = refl; weight = refl; known = omega arith }
+    record { from = omega arith; to = omega arith; plain = plain-test 36 22 tt; parity = refl; weight = refl; known = omega arith; only = only-at 58 dateParity tt tt }
 
 -- ---- what a row of marks has there
 
@@ -94,3 +113,15 @@ module _ {a b g : ℕ} (p : Part a b g) (long : Bool) where
         ap (λ (k : ℕ). onesFrom a k s) n
         ∙ ones-more a (b - a) s
         ∙ rw (m, parity-mark, part-same v v (λ g l t. refl)) (omega arith)
+
+  -- the parity's group has that mark alone
+  pub part-alone : Alone (minuteMarks long) g b
+  part-alone =
+      let e = marks-shared long b (omega (arith, p .to, shared-length)) in
+      record {
+        placed = omega (arith, p .to, long-enough long);
+        group = rw e (p .parity);
+        weight = rw e (p .weight);
+        known = p .known;
+        only = p .only long;
+      }

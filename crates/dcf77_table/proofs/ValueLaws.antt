@@ -49,7 +49,7 @@ fixed-width (suc (suc (suc g))) h = absurd (omega arith)
 
 -- ---- what the marks say
 
-few : (long : Bool) → length (minuteMarks long) ≤ mostPlaces
+pub few : (long : Bool) → length (minuteMarks long) ≤ mostPlaces
 few true = omega (arith, marks-length true)
 few false = omega (arith, marks-length false)
 

@@ -1,6 +1,7 @@
 // The tables of the marks of a DCF77 minute, of its 60 and of its 61, and the row of marks that they drive.
+use pulses::Scan;
 ghost use mathlib.Core.Path.{_≡_};
-ghost use Rattle.pulses.specs.Row.{goodPulses, sumsOf, fitsIn, laid};
+ghost use Rattle.pulses.specs.Row.{scanOf, fitsIn, laid};
 ghost use Rattle.dcf77_table.specs.Table.{minuteMarks};
 
 // The place of each group of data among the values.
@@ -42,24 +43,14 @@ pub mod groups {
     pub const DATE_PARITY: usize = 20;
 }
 
-// How many marks of a minute are good, from the start.
-pub fn good_marks(long: bool, minute: &[u8]) -> usize
-    ensures { λ r. ⌜ r ≡ goodPulses (minuteMarks long) (now (minute .entry)) ⌝ }
+// How many marks of a minute are good, up to the first that is not, and what each group of those says.
+pub fn scanned(long: bool, minute: &[u8]) -> Scan
+    ensures { λ r. ⌜ r ≡ scanOf (minuteMarks long) (now (minute .entry)) ⌝ }
 {
     if long {
-        return pulses::good_pulses(&LONG_MARKS, minute);
+        return pulses::scanned(&LONG_MARKS, minute);
     }
-    pulses::good_pulses(&MARKS, minute)
-}
-
-// What each group of a minute says.
-pub fn sums(long: bool, minute: &[u8]) -> [u32; 32]
-    ensures { λ r. ⌜ r ≡ sumsOf (minuteMarks long) (now (minute .entry)) ⌝ }
-{
-    if long {
-        return pulses::sums(&LONG_MARKS, minute);
-    }
-    pulses::sums(&MARKS, minute)
+    pulses::scanned(&MARKS, minute)
 }
 
 // Stores the minute whose groups say the values from the start of `out`, where it fits.

@@ -8,13 +8,26 @@ use borrow.Author.Tests.{eq-eqb, ne-eqb, lt-ltb, le-ltb}
 use lib.ListN.{length}
 use Rattle.reading.specs.declared.Fault.the-variants.{Length, Byte}
 use Rattle.reading.specs.Faults.{number}
-use Rattle.pulses.specs.Row.{goodPulses, sumsOf}
+use Rattle.pulses.specs.declared.Scan.{Scan}
+use Rattle.pulses.specs.Row.{goodPulses, sumsOf, scanOf}
 use Rattle.pulses.proofs.GoodLaws.{allowedAt, first-bad}
+use Rattle.pulses.proofs.ScanLaws.{scan-good, scan-sums}
 use Rattle.irig_table.specs.Table.{framePulses}
 use Rattle.irig_table.proofs.TableLaws.{frame-length}
 use Rattle.irig.specs.declared.Answer.the-variants.{No}
 use Rattle.irig.specs.Meaning.{readingOf}
 use Rattle.irig.specs.Faults.{frameLength, isOdd, valuesFault, faultIn, answerOf, readFrame}
+
+-- ---- what a pass over the pulses has found
+
+module _ (s : List ℕ) (x : Scan) (e : x ≡ scanOf framePulses s) where
+  pub found-good : x .good ≡ goodPulses framePulses s
+  found-good = scan-good framePulses s (omega (arith, frame-length)) x e
+
+  pub found-sums : length s ≡ frameLength → frameLength ≤ x .good → x .sums ≡ sumsOf framePulses s
+  found-sums l h = scan-sums framePulses s (omega (arith, frame-length)) x e (omega arith)
+
+-- ---- the reader, answer by answer
 
 pub wrong-length : (base : ℕ) (s : List ℕ) → (length s ≡ frameLength → ⊥) → readFrame base s ≡ No (number Length)
 unfolding readFrame faultIn

@@ -39,11 +39,12 @@ impl Ieee1344 {
         if s.len() != Ieee1344::LENGTH {
             return Answer::No(refusal_of(Fault::Length));
         }
-        let good = irig_table::good_pulses(s);
+        let scan = irig_table::scanned(s);
+        let good = scan.good;
         if good < Ieee1344::LENGTH {
             return Answer::No(refusal_of(Fault::Byte(good)));
         }
-        let v = irig_table::sums(s);
+        let v = scan.sums;
         let r = fields::reading_of(v);
         told(faults::values_fault(v, r, faults::is_odd(s)), r)
     }

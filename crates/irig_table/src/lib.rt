@@ -1,7 +1,8 @@
 // The table of pulses of an IEEE 1344 frame, and the row of pulses that it drives.
+use pulses::Scan;
 ghost use mathlib.Core.Path.{_≡_};
 ghost use Rattle.pulses.specs.Outline.{outlineOf};
-ghost use Rattle.pulses.specs.Row.{goodPulses, sumsOf, fitsIn, laid};
+ghost use Rattle.pulses.specs.Row.{scanOf, fitsIn, laid};
 ghost use Prim.Native.Nat.{_<_, _≤_};
 ghost use lib.ListN.{getD};
 ghost use Rattle.irig_table.specs.Table.{framePulses};
@@ -13,11 +14,11 @@ pub struct Pulse {
     pub weight: u32,
 }
 
-// How many pulses of a frame are good, from the start.
-pub fn good_pulses(frame: &[u8]) -> usize
-    ensures { λ r. ⌜ r ≡ goodPulses framePulses (now (frame .entry)) ⌝ }
+// How many pulses of a frame are good, up to the first that is not, and what each group of those says.
+pub fn scanned(frame: &[u8]) -> Scan
+    ensures { λ r. ⌜ r ≡ scanOf framePulses (now (frame .entry)) ⌝ }
 {
-    pulses::good_pulses(&PULSES, frame)
+    pulses::scanned(&PULSES, frame)
 }
 
 // Whether a frame has its outline: marks exactly where due, and 0 or 1 elsewhere.
@@ -25,13 +26,6 @@ pub fn outlined(frame: &[u8]) -> bool
     ensures { λ r. ⌜ r ≡ outlineOf framePulses (now (frame .entry)) ⌝ }
 {
     pulses::outline::outlined(&PULSES, frame)
-}
-
-// What each group of a frame says.
-pub fn sums(frame: &[u8]) -> [u32; 32]
-    ensures { λ r. ⌜ r ≡ sumsOf framePulses (now (frame .entry)) ⌝ }
-{
-    pulses::sums(&PULSES, frame)
 }
 
 // Stores the frame whose groups say the values from the start of `out`, where it fits.

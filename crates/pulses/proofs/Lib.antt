@@ -2,6 +2,7 @@ pub mod EntryLaws
 pub mod GoodLaws
 pub mod RowLaws
 pub mod SumLaws
+pub mod ScanLaws
 pub mod DigitLaws
 pub mod TripLaws
 pub mod OnesLaws

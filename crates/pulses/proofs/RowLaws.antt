@@ -5,13 +5,13 @@ use mathlib.Core.List.{List, [], _∷_, _++_, append-assoc}
 use Prim.Native.Nat.{ℕ, zero, suc, _+_, _<_, _≤_}
 use native.Mathlib.Nat.{not-suc-le-zero}
 use native.Mathlib.Numerals.{add-one}
-use native.Mathlib.Decide.{decLt}
+use native.Mathlib.Decide.{decLt, ℕ-discrete}
 use native.Mathlib.Omega.{arith}
 use borrow.Author.Tests.{le-leb, lt-leb}
-use lib.ListN.{length, getD, take, drop, set, length-append, length-drop}
-use lib.Seq.{drop-cons, take-suc, set-at, length-take-le, ext-getD, take-at, take-length, drop-at}
-use Rattle.pulses.specs.Row.{groupOf, firstData, pulseOf, pulseFor, goodPulses, row, fitsIn, laid}
-use Rattle.pulses.proofs.EntryLaws.{pulse-allowed, pulse-for-same}
+use lib.ListN.{length, getD, take, drop, set, length-append, length-drop, length-set}
+use lib.Seq.{drop-cons, take-suc, set-at, length-take-le, ext-getD, take-at, take-length, drop-at, getD-set-same, getD-set-other, set-append-left}
+use Rattle.pulses.specs.Row.{groupOf, weightOf, firstData, pulseOf, pulseFor, goodPulses, row, fitsIn, laid}
+use Rattle.pulses.proofs.EntryLaws.{pulse-allowed, pulse-data, pulse-for-same}
 
 pub length-row : (t v : List ℕ) → length (row t v) ≡ length t
 unfolding row
@@ -38,6 +38,37 @@ row-same t v w h =
     ext-getD 0 (row t v) (row t w) (length-row t v ∙ sym (length-row t w))
     (λ i l. let k : i < length t = rw length-row at l in
     pulse-at t v i k ∙ pulse-for-same (getD t i 0) v w (h i k) ∙ sym (pulse-at t w i k))
+
+-- ---- one value changed
+
+-- a group with one pulse of weight 1, at place p
+pub record Alone (t : List ℕ) (g p : ℕ) : Type 0 where
+  pub placed : p < length t
+  pub group : groupOf (getD t p 0) ≡ g
+  pub weight : weightOf (getD t p 0) ≡ 1
+  pub known : firstData ≤ g
+  pub only : (i : ℕ) → i < length t → groupOf (getD t i 0) ≡ g → i ≡ p
+
+-- another value of that group changes that pulse alone
+module _ (t v : List ℕ) (g p x : ℕ) (a : Alone t g p) (k : g < length v) (small : x < 2) where
+  its-pulse : pulseFor (getD t p 0) (set v g x) ≡ x
+  its-pulse =
+      let d : firstData ≤ groupOf (getD t p 0) = rw (a .group) (a .known) in
+      pulse-data (getD t p 0) (set v g x) d ∙ rw (a .group, a .weight, getD-set-same v g x 0 k) (omega arith)
+
+  same-pulse : (i : ℕ) → i < length t → Dec (i ≡ p) → getD (set (row t v) p x) i 0 ≡ getD (row t (set v g x)) i 0
+  same-pulse i h (yes e) =
+      rw e (getD-set-same (row t v) p x 0 (rw length-row (a .placed)) ∙ sym (pulse-at t (set v g x) p (a .placed) ∙ its-pulse))
+  same-pulse i h (no d) =
+      getD-set-other (row t v) p i x 0 d
+      ∙ pulse-at t v i h
+      ∙ pulse-for-same (getD t i 0) v (set v g x) (λ _. sym (getD-set-other v g (groupOf (getD t i 0)) x 0 (λ q. d (a .only i h q))))
+      ∙ sym (pulse-at t (set v g x) i h)
+
+  pub row-set : set (row t v) p x ≡ row t (set v g x)
+  row-set =
+      ext-getD 0 (set (row t v) p x) (row t (set v g x)) (length-set (row t v) p x ∙ length-row t v ∙ sym (length-row t (set v g x)))
+      (λ i l. same-pulse i (omega (arith, length-set (row t v) p x, length-row t v)) (ℕ-discrete i p))
 
 row-append : (t u v : List ℕ) → row (t ++ u) v ≡ row t v ++ row u v
 unfolding row
@@ -107,3 +138,10 @@ module _ (t v out : List ℕ) where
   -- and the other bytes are as they were
   pub laid-rest : length t ≤ length out → drop (length t) (laid t v out) ≡ drop (length t) out
   laid-rest h = rw (enough h .1) (drop-at (row t v) (drop (length t) out) (length t) (length-row t v))
+
+-- a value changed in the bytes: the one pulse of its group
+pub laid-set : (t v out : List ℕ) (g p x : ℕ) → Alone t g p → g < length v → x < 2 → length t ≤ length out
+    → set (laid t v out) p x ≡ laid t (set v g x) out
+laid-set t v out g p x a k small h =
+    let l : p < length (row t v) = rw length-row (a .placed) in
+    rw (enough t v out h .1, enough t (set v g x) out h .1, set-append-left (row t v) (drop (length t) out) p x l, row-set t v g p x a k small)

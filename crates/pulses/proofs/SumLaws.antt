@@ -2,15 +2,15 @@
 use mathlib.Core.Path.{_≡_, refl, sym, ap, _∙_}
 use mathlib.Core.Bool.{Bool, true, false, cond}
 use mathlib.Core.List.{List, [], _∷_}
-use Prim.Native.Nat.{ℕ, zero, suc, _+_, _*_, _%_, _<_, _≤_, min}
+use Prim.Native.Nat.{ℕ, zero, suc, _+_, _*_, _%_, _<_, _≤_}
 use native.Mathlib.Nat.{not-suc-le-zero, add-zero, le-refl}
-use native.Mathlib.Decide.{ℕ-discrete, decLe}
+use native.Mathlib.Decide.{ℕ-discrete}
 use native.Mathlib.Numerals.{add-one}
 use native.Mathlib.Omega.{arith}
 use borrow.Author.Tests.{eq-eqb, ne-eqb}
 use lib.Dec.{eqb}
-use lib.ListN.{length, getD, take, drop, set, replicate, length-append, length-set, length-take, List·getD-append, drop-of-length-le}
-use lib.Seq.{drop-cons, ext-getD, getD-at, getD-take, getD-set-same, getD-set-other, take-all}
+use lib.ListN.{length, getD, take, set, replicate, length-append, length-set, List·getD-append}
+use lib.Seq.{ext-getD, getD-at, getD-set-same, getD-set-other, take-all}
 use Rattle.pulses.specs.Row.{unit, groups, mostPlaces, groupOf, weightOf, shareOf, sumOf, upTo, sumsOf}
 use Rattle.pulses.proofs.EntryLaws.{group-small}
 
@@ -46,26 +46,21 @@ unfolding sumOf
 none-left [] g = refl
 none-left (e ∷ t) g = refl
 
-module _ (t s : List ℕ) (i : ℕ) where
-  -- the sum from place i on is the share of that place and the sum from the next
-  pub sum-more : (g : ℕ) → i < length t → i < length s
-      → sumOf (drop i t) (drop i s) g ≡ shareOf (getD t i 0) (getD s i 0) g + sumOf (drop (suc i) t) (drop (suc i) s) g
-  unfolding sumOf
-  sum-more g h k = rw (drop-cons t i 0 h, drop-cons s i 0 k)
-
-  pub sum-ends : (g : ℕ) → min (length t) (length s) ≤ i → sumOf (drop i t) (drop i s) g ≡ 0
-  unfolding sumOf
-  sum-ends g h = elim (decLe (length t) i) [
-    | yes k ↦ rw (drop-of-length-le t k)
-    | no k ↦ let l : length s ≤ i = omega arith in rw (drop-of-length-le s l) (none-left (drop i t) g)
-  ]
+-- one pulse more adds its share
+sum-grows : (t s : List ℕ) (i g : ℕ) → i < length t → i < length s
+    → sumOf t (take (suc i) s) g ≡ sumOf t (take i s) g + shareOf (getD t i 0) (getD s i 0) g
+unfolding sumOf
+sum-grows [] s i g h k = absurd (not-suc-le-zero h)
+sum-grows (e ∷ t) [] i g h k = absurd (not-suc-le-zero k)
+sum-grows (e ∷ t) (b ∷ s) zero g h k = omega (arith, none-left t g)
+sum-grows (e ∷ t) (b ∷ s) (suc i) g h k = omega (arith, sum-grows t s i g (omega arith) (omega arith))
 
 -- ---- one pass
 
--- v holds what the first i places add, and sumOf of the rest is still to come
+-- v holds what the first i places add
 pub record Gathered (t s v : List ℕ) (i : ℕ) : Type 0 where
   pub long : length v ≡ groups
-  pub holds : (g : ℕ) → getD v g 0 + sumOf (drop i t) (drop i s) g ≡ sumOf t s g
+  pub holds : (g : ℕ) → getD v g 0 ≡ sumOf t (take i s) g
   pub small : (g : ℕ) → getD v g 0 ≤ 1048575 * i
 
 zeros : (n g : ℕ) → _≡_ {A = ℕ} (getD (replicate n 0) g 0) 0
@@ -75,7 +70,7 @@ zeros (suc n) (suc g) = zeros n g
 
 pub gathered-none : (t s : List ℕ) → Gathered t s (replicate groups 0) 0
 gathered-none t s =
-    record { long = refl; holds = λ g. omega (arith, zeros groups g); small = λ g. omega (arith, zeros groups g) }
+    record { long = refl; holds = λ g. omega (arith, zeros groups g, none-left t g); small = λ g. omega (arith, zeros groups g) }
 
 added : (v : List ℕ) (f x g : ℕ) → f < length v → getD (set v f (getD v f 0 + x)) g 0 ≡ getD v g 0 + cond (eqb f g) x 0
 added v f x g h = elim (ℕ-discrete f g) [
@@ -87,35 +82,21 @@ at-most : (a : Bool) (x : ℕ) → cond a x 0 ≤ x
 at-most true x = le-refl x
 at-most false x = omega arith
 
-gathered-more : (t s v : List ℕ) (i f x : ℕ) → Gathered t s v i → i < length t → i < length s → f ≡ groupOf (getD t i 0)
+pub gathered-more : (t s v : List ℕ) (i f x : ℕ) → Gathered t s v i → i < length t → i < length s → f ≡ groupOf (getD t i 0)
     → x ≡ weightOf (getD t i 0) * (getD s i 0 % 2) → x < unit → Gathered t s (set v f (getD v f 0 + x)) (i + 1)
 unfolding shareOf
 gathered-more t s v i f x a h k p q r =
     let l : f < length v = omega (arith, a .long, group-small (getD t i 0)) in
-    let m : (g : ℕ) → sumOf (drop i t) (drop i s) g ≡ cond (eqb f g) x 0 + sumOf (drop (suc i) t) (drop (suc i) s) g =
-    λ g. sum-more t s i g h k ∙ rw (p, q) in
+    let m : (g : ℕ) → sumOf t (take (suc i) s) g ≡ sumOf t (take i s) g + cond (eqb f g) x 0 = λ g. sum-grows t s i g h k ∙ rw (p, q) in
     record {
       long = length-set v f (getD v f 0 + x) ∙ a .long;
       holds = λ g. rw add-one (omega (arith, added v f x g l, a .holds g, m g));
       small = λ g. omega (arith, added v f x g l, a .small g, at-most (eqb f g) x);
     }
 
--- what is gathered when the table or the row ends is the list of sums
-gathered-all : (t s v : List ℕ) (i : ℕ) → Gathered t s v i → min (length t) (length s) ≤ i → v ≡ upTo (sumOf t s) groups
-gathered-all t s v i a h =
-    ext-getD 0 v (upTo (sumOf t s) groups) (a .long ∙ sym (length-up-to (sumOf t s) groups))
-    (λ g l. omega (arith, a .holds g, sum-ends t s i g h, up-to-at (sumOf t s) groups g (omega (arith, a .long))))
-
--- ---- the pass over no more places than are summed
-
-pub pass-more : (t s v : List ℕ) (i f x : ℕ) → Gathered (take mostPlaces t) s v i → i < mostPlaces → i < length t → i < length s
-    → f ≡ groupOf (getD t i 0) → x ≡ weightOf (getD t i 0) * (getD s i 0 % 2) → x < unit
-    → Gathered (take mostPlaces t) s (set v f (getD v f 0 + x)) (i + 1)
-pass-more t s v i f x a m h k p q r =
-    let e : getD (take mostPlaces t) i 0 ≡ getD t i 0 = getD-take mostPlaces t i 0 m in
-    gathered-more (take mostPlaces t) s v i f x a (rw length-take (omega arith)) k (rw e p) (rw e q) r
-
-pub pass-all : (t s v : List ℕ) (i : ℕ) → Gathered (take mostPlaces t) s v i
-    → min mostPlaces (min (length t) (length s)) ≤ i → v ≡ sumsOf t s
-unfolding sumsOf
-pass-all t s v i a h = gathered-all (take mostPlaces t) s v i a (rw length-take (omega arith))
+-- what is gathered is the list of sums
+pub gathered-all : (t s v : List ℕ) (i : ℕ) → Gathered t s v i → v ≡ upTo (sumOf t (take i s)) groups
+gathered-all t s v i a =
+    let f = sumOf t (take i s) in
+    ext-getD 0 v (upTo f groups) (a .long ∙ sym (length-up-to f groups))
+    (λ g l. a .holds g ∙ sym (up-to-at f groups g (omega (arith, a .long))))

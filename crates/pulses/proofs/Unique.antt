@@ -6,22 +6,17 @@ use denote.Triple.Clauses.{AtExit}
 use denote.Ref.{now}
 use mathlib.Core.Path.{_≡_}
 use Rattle.laws.proofs.Coincide.{Coincide}
-use Rattle.pulses.proofs.good_pulses.Reads as good-pulses-reads
 use Rattle.pulses.proofs.outline.outlined.Kinds as outlined-kinds
 use Rattle.pulses.proofs.outline.outlined.Reads as outlined-reads
-use Rattle.pulses.proofs.good_pulses.Kinds as good-pulses-kinds
-use Rattle.pulses.proofs.sums.Reads as sums-reads
-use Rattle.pulses.proofs.sums.Kinds as sums-kinds
+use Rattle.pulses.proofs.scanned.Reads as scanned-reads
+use Rattle.pulses.proofs.scanned.Kinds as scanned-kinds
 use Rattle.pulses.proofs.lay.Reads as lay-reads
 use Rattle.pulses.proofs.lay.Kinds as lay-kinds
 use Rattle.pulses.proofs.ones.Reads as ones-reads
 use Rattle.pulses.proofs.ones.Kinds as ones-kinds
 
-pub good-pulses-one : Coincide 2 good-pulses-kinds.ps good-pulses-kinds.r good-pulses-reads.Post
-good-pulses-one κs a x y e f p q = cc
-
-pub sums-one : Coincide 2 sums-kinds.ps sums-kinds.r sums-reads.Post
-sums-one κs a x y e f p q = cc
+pub scanned-one : Coincide 2 scanned-kinds.ps scanned-kinds.r scanned-reads.Post
+scanned-one κs a x y e f p q = cc
 
 pub ones-one : Coincide 1 ones-kinds.ps ones-kinds.r ones-reads.Post
 ones-one κs a x y e f p q = cc

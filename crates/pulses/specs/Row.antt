@@ -6,6 +6,7 @@ use Prim.Native.Nat.{ℕ, zero, suc, _+_, _-_, _*_, _/_, _%_, _^_}
 use lib.Dec.{leb, ltb, eqb}
 use lib.ListN.{length, getD, take, drop}
 use Rattle.laws.proofs.Tested.{below}
+use Rattle.pulses.specs.declared.Scan.{Scan}
 
 -- what one group is worth in an entry
 abbrev pub unit : ℕ
@@ -61,13 +62,21 @@ unfoldable pub upTo : (ℕ → ℕ) → ℕ → List ℕ
 upTo f zero = []
 upTo f (suc n) = upTo f n ++ (f n ∷ [])
 
--- no more places than these are summed
+-- no more places than these are read
 abbrev pub mostPlaces : ℕ
 mostPlaces = 4096
 
 -- the sum of each group
 unfoldable pub sumsOf : List ℕ → List ℕ → List ℕ
 sumsOf t s = upTo (sumOf (take mostPlaces t) s) groups
+
+-- how many pulses from the start are good, among the places that are read
+unfoldable pub goodOf : List ℕ → List ℕ → ℕ
+goodOf t s = goodPulses (take mostPlaces t) s
+
+-- what a pass over the pulses finds: how many are good, up to the first that is not, and what those add up to
+unfoldable pub scanOf : List ℕ → List ℕ → Scan
+scanOf t s = record { good = goodOf t s; sums = sumsOf t (take (goodOf t s) s) }
 
 -- ---- writing
 

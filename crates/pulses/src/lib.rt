@@ -11,8 +11,7 @@ ghost use Rattle.pulses.specs.Row.{
   weightOf,
   pulseAllowed,
   pulseOf,
-  goodPulses,
-  sumsOf,
+  scanOf,
   fitsIn,
   laid,
   onesFrom,
@@ -23,7 +22,7 @@ ghost use Rattle.pulses.specs.Row.{
 // An entry of a table is its group times this, and its weight.
 const UNIT: u32 = 1048576;
 
-// More places than this are not summed, so that no sum outgrows its number.
+// More places than this are not read, so that no sum outgrows its number.
 const PLACES: usize = 4096;
 
 // A word holds this many pulses, and two words are packed.
@@ -70,21 +69,6 @@ fn is_allowed(entry: u32, pulse: u8) -> bool
     pulse == 1
 }
 
-// How many pulses from the start are as the table asks.
-pub fn good_pulses(table: &[u32], pulses: &[u8]) -> usize
-    ensures { λ r. ⌜ r ≡ goodPulses (now (table .entry)) (now (pulses .entry)) ⌝ }
-{
-    let end = smaller(table.len(), pulses.len());
-    let mut i = 0;
-    while i < end {
-        if !is_allowed(table[i], pulses[i]) {
-            return i;
-        }
-        i += 1;
-    }
-    i
-}
-
 // What a pulse adds to its group.
 fn share(entry: u32, pulse: u8) -> u32
     ensures { λ r. ⌜ r ≡ weightOf entry * (pulse % 2) ⌝ }
@@ -93,20 +77,30 @@ fn share(entry: u32, pulse: u8) -> u32
     weight_of(entry) * ((pulse % 2) as u32)
 }
 
-// What the pulses of each group add up to.
-pub fn sums(table: &[u32], pulses: &[u8]) -> [u32; 32]
-    ensures { λ r. ⌜ r ≡ sumsOf (now (table .entry)) (now (pulses .entry)) ⌝ }
+// What one pass over the pulses finds: how many of them are good, up to the first that is not, and what those add up to.
+pub struct Scan {
+    pub good: usize,
+    pub sums: [u32; 32],
+}
+
+// Leaves at the first pulse that is not as the table asks.
+pub fn scanned(table: &[u32], pulses: &[u8]) -> Scan
+    ensures { λ r. ⌜ r ≡ scanOf (now (table .entry)) (now (pulses .entry)) ⌝ }
 {
     let mut sums = [0u32; 32];
     let end = smaller(PLACES, smaller(table.len(), pulses.len()));
     let mut i = 0;
     while i < end {
         let entry = table[i];
+        let pulse = pulses[i];
+        if !is_allowed(entry, pulse) {
+            return Scan { good: i, sums };
+        }
         let group = group_of(entry);
-        sums[group] = sums[group] + share(entry, pulses[i]);
+        sums[group] = sums[group] + share(entry, pulse);
         i += 1;
     }
-    sums
+    Scan { good: i, sums }
 }
 
 // The pulse that says its part of the value of its group.

@@ -21,9 +21,6 @@ room-fault-requires c κs = search needs
 is-good-requires : tie.Need-is-good-requires
 is-good-requires c κs = search needs
 
-values-of-requires : tie.Need-values-of-requires
-values-of-requires c κs = search needs
-
 store-requires : tie.Need-store-requires
 store-requires c κs = search needs
 
@@ -38,13 +35,13 @@ same-length c = search needs
 
 returns : tie.Need-returns
 returns c =
-    let r = c .before .before .before .before .before .before .before .before .before .before .before .before .args .r in
-    let head = c .before .before .before .before .before .before .before .before .before .before .before .before .args .head in
-    let out = now (c .before .before .before .before .before .before .before .before .before .before .before .before .args .out) in
-    let verdict = c .before .before .before .before .before .before .before .before .room-fault .result in
-    let v : verdict ≡ writeFault base r head (length out) =
-    found base r head (length out) verdict (c .before .before .before .before .before .before .before .before .before .carry-fault .result) (c .before .before .before .before .before .before .before .before .before .before .due-long .result) (cc) (cc) (cc) in
-    (cc, left base r head out verdict (c .before .before .before .before .store .last .1 .0) v (cc))
+    let room = c .before .before .before .before .before .before .before in
+    let a = room .before .before .before .before .args in
+    let out = now (a .out) in
+    let verdict = room .room-fault .result in
+    let v : verdict ≡ writeFault base (a .r) (a .head) (length out) =
+    found base (a .r) (a .head) (length out) verdict (room .before .carry-fault .result) (room .before .before .due-long .result) (cc) (cc) (cc) in
+    (cc, left base (a .r) (a .head) out verdict (c .before .before .before .before .store .last .1 .0) v (cc))
 
 pub write-spec : {M : Type 1} → statement M
 write-spec =
@@ -54,7 +51,6 @@ write-spec =
     carry-fault-requires
     room-fault-requires
     is-good-requires
-    values-of-requires
     store-requires
     length-of-requires
     written-requires

@@ -12,7 +12,11 @@ after-leap-requires c κs = search needs
 
 returns : tie.Need-returns
 unfolding dueLong
-returns c = rw (c .before .after-leap .ensures, c .before .before .utc-of .ensures)
+returns c = rw (c .after-leap .ensures, c .before .utc-of .ensures, c .before .before .if1 .taken)
+
+returns-2 : tie.Need-returns-2
+unfolding dueLong
+returns-2 c = rw (c .if1 .left)
 
 pub due-long-spec : {M : Type 1} → statement M
-due-long-spec = tie.close (tie.spec utc-of-requires after-leap-requires returns)
+due-long-spec = tie.close (tie.spec utc-of-requires after-leap-requires returns returns-2)

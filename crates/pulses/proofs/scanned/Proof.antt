@@ -1,16 +1,15 @@
--- `pulses::sums` meets its contract: after i turns the array holds what the first i places add. Assumes nothing.
+-- `pulses::scanned` meets its contract: after i turns the first i pulses are good, and the array holds what they add. Assumes nothing.
 use borrow.Author.Needs.{needs}
 use native.Mathlib.Omega.{arith}
 use Prim.Native.Nat.{_≤_, _-_}
 use denote.Ref.{now}
-use lib.ListN.{take}
-use Rattle.pulses.specs.Row.{mostPlaces}
-use Rattle.pulses.proofs.SumLaws.{Gathered, gathered-none, pass-more, pass-all}
-use Rattle.pulses.proofs.sums.Statement.{statement}
-use Rattle.pulses.proofs.sums.Tie as tie
+use Rattle.laws.proofs.Bools.{failed, passed}
+use Rattle.pulses.proofs.ScanLaws.{Passed, passed-none, passed-more, passed-stops, passed-all}
+use Rattle.pulses.proofs.scanned.Statement.{statement}
+use Rattle.pulses.proofs.scanned.Tie as tie
 
 abbrev Inv-loop : tie.InvT-loop
-Inv-loop table pulses sums₀ end i₀ sums i = (i ≤ end) × Gathered (take mostPlaces table) pulses sums i
+Inv-loop table pulses sums₀ end i₀ sums i = (i ≤ end) × Passed table pulses sums i
 
 abbrev μ-loop : tie.MeasureT-loop
 μ-loop table pulses sums₀ end i₀ sums i = end - i
@@ -22,13 +21,25 @@ smaller-requires-2 : tie.Need-smaller-requires-2 Inv-loop μ-loop
 smaller-requires-2 c κs = search needs
 
 loop-holds : tie.Need-loop-holds Inv-loop μ-loop
-loop-holds c = (omega arith, gathered-none _ _)
+loop-holds c = (omega arith, passed-none _ _)
 
 mul-entry : tie.Need-mul-entry Inv-loop μ-loop
 mul-entry c = omega arith
 
 shared-slice-read-entry : tie.Need-shared-slice-read-entry Inv-loop μ-loop
 shared-slice-read-entry c = omega arith
+
+shared-slice-read-pulse : tie.Need-shared-slice-read-pulse Inv-loop μ-loop
+shared-slice-read-pulse c = omega arith
+
+is-allowed-requires : tie.Need-is-allowed-requires Inv-loop μ-loop
+is-allowed-requires c κs = search needs
+
+returns : tie.Need-returns Inv-loop μ-loop
+returns c =
+    let l = c .before .before .before .before .before in
+    passed-stops _ _ _ _ (l .loop .inv .1) (omega arith) (omega arith) (omega arith)
+    (failed (c .before .is-allowed .ensures) (c .if1 .taken))
 
 group-of-requires : tie.Need-group-of-requires Inv-loop μ-loop
 group-of-requires c κs = search needs
@@ -39,16 +50,13 @@ mul-sums c = omega arith
 array-read-sums : tie.Need-array-read-sums Inv-loop μ-loop
 array-read-sums c = omega arith
 
-shared-slice-read-share : tie.Need-shared-slice-read-share Inv-loop μ-loop
-shared-slice-read-share c = omega arith
-
 share-requires : tie.Need-share-requires Inv-loop μ-loop
 share-requires c κs = search needs
 
 add-sums : tie.Need-add-sums Inv-loop μ-loop
 add-sums c =
-    let l = c .before .before .before .before .before in
-    omega (arith, l .loop .inv .1 .small (c .before .before .group-of .result))
+    let l = c .before .before .before .before .before .before .before in
+    omega (arith, l .loop .inv .1 .gathered .small (c .before .group-of .result))
 
 mul-sums-2 : tie.Need-mul-sums-2 Inv-loop μ-loop
 mul-sums-2 c = omega arith
@@ -64,18 +72,20 @@ loop-less c = omega arith
 
 loop-again : tie.Need-loop-again Inv-loop μ-loop
 loop-again c =
-    let l = c .before .before .before .before .before in
+    let f = c .before .before in
+    let l = f .before .before .before .before .before in
     let a = l .before .before .before .before .before .args in
-    let g = c .before .before .group-of in
+    let g = c .before .group-of in
     let x = c .share in
-    let h = pass-more (now (a .table)) (now (a .pulses)) (l .loop .sums) (l .loop .i) (g .result) (x .result) in
-    (omega arith, h (l .loop .inv .1) (omega arith) (omega arith) (omega arith) (g .ensures .0) (x .ensures .0) (x .ensures .1))
+    let h =
+    passed-more (now (a .table)) (now (a .pulses)) (l .loop .sums) (l .loop .i) (l .loop .inv .1) (omega arith) (omega arith) (omega arith) in
+    (omega arith, h (passed (f .before .is-allowed .ensures) (f .if1 .left)) (g .result) (x .result) (g .ensures .0) (x .ensures .0) (x .ensures .1))
 
-returns : tie.Need-returns Inv-loop μ-loop
-returns c = pass-all _ _ _ _ (c .before .loop .inv .1) (omega arith)
+returns-2 : tie.Need-returns-2 Inv-loop μ-loop
+returns-2 c = passed-all _ _ _ _ (c .before .loop .inv .1) (omega arith)
 
-pub sums-spec : {M : Type 1} → statement M
-sums-spec =
+pub scanned-spec : {M : Type 1} → statement M
+scanned-spec =
     tie.close
     (tie.spec
     Inv-loop
@@ -85,10 +95,12 @@ sums-spec =
     loop-holds
     mul-entry
     shared-slice-read-entry
+    shared-slice-read-pulse
+    is-allowed-requires
+    returns
     group-of-requires
     mul-sums
     array-read-sums
-    shared-slice-read-share
     share-requires
     add-sums
     mul-sums-2
@@ -96,4 +108,4 @@ sums-spec =
     add-i
     loop-less
     loop-again
-    returns)
+    returns-2)

@@ -1,0 +1,73 @@
+-- One pass over the pulses: what is counted and what is gathered, place by place, and what it comes to where all are good.
+use mathlib.Core.Path.{_≡_, refl, sym, ap, _∙_}
+use mathlib.Core.Bool.{true, false}
+use mathlib.Core.List.{List}
+use Prim.Native.Nat.{ℕ, _+_, _*_, _%_, _<_, _≤_, min}
+use native.Mathlib.Omega.{arith}
+use lib.ListN.{length, getD, take, set, replicate, length-take}
+use lib.Seq.{getD-take, take-all}
+use Rattle.pulses.specs.declared.Scan.{Scan}
+use Rattle.pulses.specs.Row.{unit, groups, mostPlaces, groupOf, weightOf, pulseAllowed, goodPulses, sumOf, sumsOf, goodOf, scanOf}
+use Rattle.pulses.proofs.GoodLaws.{Counted, counted-none, counted-more, counted-stops, counted-ends}
+use Rattle.pulses.proofs.SumLaws.{Gathered, gathered-none, gathered-more, gathered-all}
+
+-- the first i places are good, and v holds what they add
+pub record Passed (t s v : List ℕ) (i : ℕ) : Type 0 where
+  pub counted : Counted (take mostPlaces t) s i
+  pub gathered : Gathered (take mostPlaces t) s v i
+
+module _ (t s : List ℕ) where
+  pub passed-none : Passed t s (replicate groups 0) 0
+  passed-none = record { counted = counted-none (take mostPlaces t) s; gathered = gathered-none (take mostPlaces t) s }
+
+  ends : (v : List ℕ) (i : ℕ) → Passed t s v i → i ≡ goodOf t s → record { good = i; sums = v } ≡ scanOf t s
+  unfolding scanOf sumsOf
+  ends v i a e =
+      let f : v ≡ sumsOf t (take (goodOf t s) s) = rw e at (gathered-all (take mostPlaces t) s v i (a .gathered)) in
+      λ j. record { good = e j; sums = f j }
+
+  -- the table or the row ends
+  pub passed-all : (v : List ℕ) (i : ℕ) → Passed t s v i → min mostPlaces (min (length t) (length s)) ≤ i
+      → record { good = i; sums = v } ≡ scanOf t s
+  unfolding goodOf
+  passed-all v i a h = ends v i a (counted-ends (take mostPlaces t) s i (a .counted) (rw length-take (omega arith)))
+
+  module _ (v : List ℕ) (i : ℕ) (a : Passed t s v i) (m : i < mostPlaces) (h : i < length t) (k : i < length s) where
+    within : i < length (take mostPlaces t)
+    within = rw length-take (omega arith)
+
+    here : getD (take mostPlaces t) i 0 ≡ getD t i 0
+    here = getD-take mostPlaces t i 0 m
+
+    -- a bad pulse
+    pub passed-stops : pulseAllowed (getD t i 0) (getD s i 0) ≡ false → record { good = i; sums = v } ≡ scanOf t s
+    unfolding goodOf
+    passed-stops e = ends v i a (counted-stops (take mostPlaces t) s i (a .counted) within k (rw here e))
+
+    -- a good one, with what it adds
+    pub passed-more : pulseAllowed (getD t i 0) (getD s i 0) ≡ true → (f x : ℕ) → f ≡ groupOf (getD t i 0)
+        → x ≡ weightOf (getD t i 0) * (getD s i 0 % 2) → x < unit → Passed t s (set v f (getD v f 0 + x)) (i + 1)
+    passed-more e f x p q r =
+        record {
+          counted = counted-more (take mostPlaces t) s i (a .counted) within k (rw here e);
+          gathered = gathered-more (take mostPlaces t) s v i f x (a .gathered) within k (rw here p) (rw here q) r;
+        }
+
+-- ---- a table of no more places than are read
+
+module _ (t s : List ℕ) (few : length t ≤ mostPlaces) where
+  pub good-of-all : goodOf t s ≡ goodPulses t s
+  unfolding goodOf
+  good-of-all = ap (λ (u : List ℕ). goodPulses u s) (take-all mostPlaces t few)
+
+  -- what a pass has found
+  module _ (x : Scan) (e : x ≡ scanOf t s) where
+    pub scan-good : x .good ≡ goodPulses t s
+    unfolding scanOf
+    scan-good = ap (λ (y : Scan). y .good) e ∙ good-of-all
+
+    -- where all pulses are good, the sums are those of the row
+    pub scan-sums : length s ≤ x .good → x .sums ≡ sumsOf t s
+    unfolding scanOf
+    scan-sums h =
+        ap (λ (y : Scan). y .sums) e ∙ ap (sumsOf t) (take-all (goodOf t s) s (omega (arith, scan-good, good-of-all)))
