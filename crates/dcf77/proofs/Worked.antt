@@ -13,7 +13,7 @@ use Rattle.reading.specs.Offset.{west, east, offsetGood}
 use Rattle.reading.specs.Universal.{utcMinutes, onDay, utcOf}
 use Rattle.reading.specs.Leap.{closesWithLeap, sixtyBad, afterLeap}
 use Rattle.reading.specs.Checks.{timeBad, dateBad}
-use Rattle.pulses.specs.Row.{upTo, row, pulseFor, pulseOf, groupOf, weightOf, onesFrom, liesWithin, onesOf}
+use Rattle.pulses.specs.Row.{upTo, row, pulseFor, pulseOf, digitOf, groupOf, weightOf, onesFrom, liesWithin, onesOf}
 use Rattle.dcf77_table.specs.Table.{sharedMarks, lastMarks, minuteMarks}
 use Rattle.dcf77.specs.declared.Answer.the-variants.{Time}
 use Rattle.dcf77.specs.Zones.{offsetIn, zoneOf}
@@ -57,7 +57,7 @@ pub ones-8 : List ℕ
 ones-8 = 18 ∷ 20 ∷ 23 ∷ 25 ∷ 26 ∷ 28 ∷ 30 ∷ 33 ∷ 36 ∷ 39 ∷ 41 ∷ 44 ∷ 46 ∷ 52 ∷ 55 ∷ 58 ∷ []
 
 pub case-8-marks : bytesOf case-8 0 ≡ marksWith 60 59 ones-8
-unfolding case-8 ones-8 winter marksWith among upTo bytesOf valuesOf withParity plainOf evened onesOf liesWithin onesFrom row pulseFor pulseOf groupOf weightOf minuteMarks sharedMarks lastMarks dueLong zoneOf weekdayOf dayNumber dayOfYear daysBeforeYear daysBefore daysIn yearLength leapYear
+unfolding case-8 ones-8 winter marksWith among upTo bytesOf valuesOf withParity plainOf evened onesOf liesWithin onesFrom row pulseFor pulseOf digitOf groupOf weightOf minuteMarks sharedMarks lastMarks dueLong zoneOf weekdayOf dayNumber dayOfYear daysBeforeYear daysBefore daysIn yearLength leapYear
 case-8-marks = refl
 
 carried-8 : carryFault base case-8 0 ≡ Good
@@ -76,7 +76,7 @@ pub new-year-ones : List ℕ
 new-year-ones = 18 ∷ 19 ∷ 20 ∷ 29 ∷ 35 ∷ 36 ∷ 42 ∷ 43 ∷ 44 ∷ 45 ∷ 50 ∷ 51 ∷ 52 ∷ 54 ∷ 58 ∷ []
 
 pub new-year-marks : bytesOf new-year 0 ≡ marksWith 61 60 new-year-ones
-unfolding new-year new-year-ones winter marksWith among upTo bytesOf valuesOf withParity plainOf evened onesOf liesWithin onesFrom row pulseFor pulseOf groupOf weightOf minuteMarks sharedMarks lastMarks dueLong afterLeap closesWithLeap dayBefore utcOf utcMinutes onDay west east zoneOf weekdayOf dayNumber dayOfYear daysBeforeYear daysBefore daysIn yearLength leapYear
+unfolding new-year new-year-ones winter marksWith among upTo bytesOf valuesOf withParity plainOf evened onesOf liesWithin onesFrom row pulseFor pulseOf digitOf groupOf weightOf minuteMarks sharedMarks lastMarks dueLong afterLeap closesWithLeap dayBefore utcOf utcMinutes onDay west east zoneOf weekdayOf dayNumber dayOfYear daysBeforeYear daysBefore daysIn yearLength leapYear
 new-year-marks = refl
 
 carried-new-year : carryFault base new-year 0 ≡ Good

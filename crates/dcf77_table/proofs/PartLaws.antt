@@ -101,7 +101,7 @@ module _ {a b g : ℕ} (p : Part a b g) (long : Bool) where
     parity-mark =
         let e = getD sharedMarks b 0 in
         let d : firstData ≤ groupOf e = rw (p .parity) (p .known) in
-        mark-at long v b (p .to) ∙ pulse-data e v d ∙ rw (p .parity, p .weight) (omega arith)
+        mark-at long v b (p .to) ∙ pulse-data e v 0 d (p .weight) ∙ rw (p .parity) (omega arith)
 
     -- the ones of the part are those of the data and the parity
     pub part-ones : onesFrom a (b + 1 - a) (row (minuteMarks long) v) ≡ onesFrom a (b - a) (row (minuteMarks false) v) + getD v g 0

@@ -3,7 +3,7 @@
 use mathlib.Core.Bool.{Bool, cond}
 use mathlib.Core.List.{List, [], _∷_, _++_}
 use Prim.Native.Nat.{ℕ, _+_, _*_}
-use Rattle.pulses.specs.Row.{unit}
+use Rattle.pulses.specs.Row.{unit, marks}
 
 -- a mark of group g that weighs w
 abbrev pub at : ℕ → ℕ → ℕ
@@ -15,11 +15,11 @@ zeroed = at 0 0
 
 -- the missing mark, a 2
 abbrev pub missing : ℕ
-missing = at 1 0
+missing = at marks 0
 
 -- a mark that is always 1
 abbrev pub one : ℕ
-one = at 2 0
+one = at 1 0
 
 -- ---- the groups of data
 

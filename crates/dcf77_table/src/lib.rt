@@ -64,13 +64,13 @@ pub fn lay(out: &mut [u8], long: bool, values: [u32; 32]) -> bool
     pulses::lay(out, &MARKS, values)
 }
 
-const UNIT: u32 = 1048576;
+const UNIT: u32 = 134217728;
 
 const ZERO: u32 = 0;
 
-const MISSING: u32 = UNIT;
+const MISSING: u32 = 2 * UNIT;
 
-const ONE: u32 = 2 * UNIT;
+const ONE: u32 = UNIT;
 
 const HEAD_UNIT: u32 = (groups::HEAD as u32) * UNIT;
 

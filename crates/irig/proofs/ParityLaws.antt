@@ -48,7 +48,7 @@ module _ (r : Reading) (p : ℕ) where
     unfolding framePulses groupOf weightOf valuesOf groupsOf
     parity-pulse =
         pulse-at framePulses (valuesOf r p) parityPlace (omega (arith, frame-length))
-        ∙ pulse-data (getD framePulses parityPlace 0) (valuesOf r p) (omega arith) ∙ digit
+        ∙ pulse-data (getD framePulses parityPlace 0) (valuesOf r p) 0 (omega arith) refl ∙ digit
       where
         digit : p / 1 % 2 ≡ p
         digit = omega arith

@@ -95,7 +95,7 @@ pub sign-at-64 : (r : Reading) → getD (frameOf r) signPlace 0 ≡ bit (ltb 0 (
 unfolding frameOf framePulses groupOf weightOf valuesOf groupsOf
 sign-at-64 r =
     pulse-at framePulses (valuesOf r (parityOf r)) signPlace (omega (arith, frame-length))
-    ∙ pulse-data (getD framePulses signPlace 0) (valuesOf r (parityOf r)) (omega arith)
+    ∙ pulse-data (getD framePulses signPlace 0) (valuesOf r (parityOf r)) 0 (omega arith) refl
     ∙ ap (λ (b : Bool). bit b / 1 % 2) (minus-ahead (r .offset .0)) ∙ digit (ltb 0 (east (r .offset .0)))
   where
     digit : (b : Bool) → bit b / 1 % 2 ≡ bit b

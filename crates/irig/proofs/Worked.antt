@@ -29,7 +29,7 @@ use Rattle.reading.specs.Years.{base, inHundred, yearOf}
 use Rattle.reading.specs.Offset.{west, east, offsetGood, localOf}
 use Rattle.reading.specs.Leap.{sixtyBad}
 use Rattle.reading.specs.Checks.{timeBad, dateBad, checkedOf}
-use Rattle.pulses.specs.Row.{groupOf, weightOf, pulseAllowed, pulseOf, pulseFor, row, goodPulses, shareOf, sumOf, sumsOf, upTo, onesFrom}
+use Rattle.pulses.specs.Row.{groupOf, weightOf, pulseAllowed, pulseOf, digitOf, pulseFor, row, goodPulses, shareOf, sumOf, sumsOf, upTo, onesFrom}
 use Rattle.irig_table.specs.Table.{framePulses}
 use Rattle.irig_table.specs.Paper.{markDue}
 use Rattle.irig_table.proofs.WorkedFrame.{ones, among}
@@ -74,7 +74,7 @@ abbrev pub case6 : Reading
 case6 = atOffset (pos 2)
 
 pub case-6 : frameOf case6 ≡ upTo (λ i. cond (markDue i) 2 (cond (among i ones) 1 0)) frameLength
-unfolding frameOf parityOf valuesOf groupsOf dayOfYear daysBefore daysIn leapYear framePulses ones among row pulseFor pulseOf groupOf weightOf upTo onesFrom
+unfolding frameOf parityOf valuesOf groupsOf dayOfYear daysBefore daysIn leapYear framePulses ones among row pulseFor pulseOf digitOf groupOf weightOf upTo onesFrom
 case-6 = refl
 
 -- ---- which code the reader and the writer refuse by, 0 where they do not
@@ -98,7 +98,7 @@ pub cases-read :
     ∷ []
     )
     ≡ 0 ∷ 7 ∷ 0 ∷ 8 ∷ 0 ∷ 8 ∷ []
-unfolding number readFrame faultIn valuesFault fieldsFault isOdd readingOf yearIn monthDayIn secondIn minuteIn hourIn dayIn digitsIn halvesIn addedIn dayBad secondOfDayWrong offsetBad frameOf parityOf valuesOf groupsOf goodPulses pulseAllowed sumsOf sumOf shareOf upTo row pulseFor pulseOf groupOf weightOf framePulses onesFrom dayOfYear daysBefore daysIn leapYear inYear yearLength monthDay monthUpTo yearOf west east offsetGood localOf sixtyBad
+unfolding number readFrame faultIn valuesFault fieldsFault isOdd readingOf yearIn monthDayIn secondIn minuteIn hourIn dayIn digitsIn halvesIn addedIn dayBad secondOfDayWrong offsetBad frameOf parityOf valuesOf groupsOf goodPulses pulseAllowed sumsOf sumOf shareOf upTo row pulseFor pulseOf digitOf groupOf weightOf framePulses onesFrom dayOfYear daysBefore daysIn leapYear inYear yearLength monthDay monthUpTo yearOf west east offsetGood localOf sixtyBad
 cases-read = refl
 
 pub cases-written :

@@ -7,7 +7,7 @@ use native.Mathlib.Omega.{arith}
 use lib.Dec.{leb, eqb}
 use lib.ListN.{length, getD, replicate}
 use borrow.Author.Tests.{leb-true, leb-false}
-use Rattle.pulses.specs.Row.{groupOf}
+use Rattle.pulses.specs.Row.{marks, groupOf}
 use Rattle.pulses.specs.Outline.{inOutline, outlineOf}
 use Rattle.pulses.proofs.OutlineLaws.{outlineAt, outline-each, outline-mark}
 use Rattle.irig_table.specs.Table.{framePulses}
@@ -20,7 +20,7 @@ use Rattle.irig_stream.specs.declared.Said.the-variants.{Nothing}
 use Rattle.irig_stream.specs.Said.{kept, filler, sayOf, owed}
 
 -- the first place of a frame is a mark
-first-is-mark : groupOf (getD framePulses 0 0) ≡ 1
+first-is-mark : groupOf (getD framePulses 0 0) ≡ marks
 unfolding groupOf framePulses
 first-is-mark = refl
 

@@ -21,10 +21,10 @@ pub frame-sound : T (sound framePulses)
 unfolding framePulses sound doubling groupOf weightOf
 frame-sound = tt
 
--- how many pulses each group has: what is always 0, marks, none that is always 1, and then the groups of data
+-- how many pulses each group has: what is always 0, none that is always 1, marks, and then the groups of data
 pub frame-widths :
     upTo (pulsesIn framePulses) groups
-    ≡ 19 ∷ 11 ∷ 0 ∷ 4 ∷ 3 ∷ 4 ∷ 3 ∷ 4 ∷ 2 ∷ 4 ∷ 4 ∷ 2 ∷ 4 ∷ 4 ∷ 1 ∷ 1 ∷ 1 ∷ 1 ∷ 1 ∷ 4 ∷ 1 ∷ 4 ∷ 1 ∷ 17 ∷ 0 ∷ 0 ∷ 0 ∷ 0 ∷ 0 ∷ 0 ∷ 0 ∷ 0 ∷ []
+    ≡ 19 ∷ 0 ∷ 11 ∷ 4 ∷ 3 ∷ 4 ∷ 3 ∷ 4 ∷ 2 ∷ 4 ∷ 4 ∷ 2 ∷ 4 ∷ 4 ∷ 1 ∷ 1 ∷ 1 ∷ 1 ∷ 1 ∷ 4 ∷ 1 ∷ 4 ∷ 1 ∷ 17 ∷ 0 ∷ 0 ∷ 0 ∷ 0 ∷ 0 ∷ 0 ∷ 0 ∷ 0 ∷ []
 unfolding framePulses upTo pulsesIn groupOf
 frame-widths = refl
 

@@ -5,7 +5,7 @@ use mathlib.Core.List.{List, [], _∷_}
 use mathlib.Core.Path.{_≡_, refl}
 use Prim.Native.Nat.{ℕ, _%_}
 use lib.Dec.{eqb}
-use Rattle.pulses.specs.Row.{groupOf, weightOf, pulseOf, pulseFor, row, upTo, onesFrom, shareOf, sumOf}
+use Rattle.pulses.specs.Row.{groupOf, weightOf, digitOf, pulseOf, pulseFor, row, upTo, onesFrom, shareOf, sumOf}
 use Rattle.irig_table.specs.Table.{framePulses}
 use Rattle.irig_table.specs.Paper.{markDue}
 
@@ -25,13 +25,13 @@ among i [] = false
 among i (p ∷ l) = eqb i p || among i l
 
 pub worked-row : row framePulses values ≡ upTo (λ i. cond (markDue i) 2 (cond (among i ones) 1 0)) 100
-unfolding framePulses values ones among row pulseFor pulseOf groupOf weightOf upTo
+unfolding framePulses values ones among row pulseFor pulseOf digitOf groupOf weightOf upTo
 worked-row = refl
 
 pub worked-even : onesFrom 1 75 (row framePulses values) % 2 ≡ 0
-unfolding framePulses values row pulseFor pulseOf groupOf weightOf onesFrom
+unfolding framePulses values row pulseFor pulseOf digitOf groupOf weightOf onesFrom
 worked-even = refl
 
 pub worked-read : upTo (λ g. sumOf framePulses (row framePulses values) g) 32 ≡ values
-unfolding framePulses values row pulseFor pulseOf groupOf weightOf sumOf shareOf upTo
+unfolding framePulses values row pulseFor pulseOf digitOf groupOf weightOf sumOf shareOf upTo
 worked-read = refl

@@ -120,7 +120,7 @@ inRows (w ∷ l) i =
 -- the field of each group
 abbrev pub fields : List ℕ
 fields =
-    none ∷ positionMark ∷ none
+    none ∷ none ∷ positionMark
     ∷ second ∷ second ∷ minute ∷ minute ∷ hour ∷ hour
     ∷ dayOfYear ∷ dayOfYear ∷ dayOfYear ∷ year ∷ year
     ∷ leapPending ∷ deletion ∷ changePending ∷ summer

@@ -2,7 +2,7 @@
 -- Each decimal digit is a group of its own, so that its pulses weigh 1, 2, 4 and 8.
 use mathlib.Core.List.{List, [], _∷_}
 use Prim.Native.Nat.{ℕ, _+_, _*_}
-use Rattle.pulses.specs.Row.{unit}
+use Rattle.pulses.specs.Row.{unit, marks}
 
 -- a pulse of group g that weighs w
 abbrev pub at : ℕ → ℕ → ℕ
@@ -14,7 +14,7 @@ zeroed = at 0 0
 
 -- a position mark
 abbrev pub mark : ℕ
-mark = at 1 0
+mark = at marks 0
 
 -- ---- the groups of data
 

@@ -41,10 +41,10 @@ pub fn pulse_at(place: usize) -> Pulse
     ensures { λ r. ⌜ r ≡ pulseAt place ⌝ }
 {
     let entry = entry_at(place);
-    let group = (entry / UNIT % 32) as usize;
+    let group = pulses::group_of(entry);
     Pulse {
         field: field_of(group),
-        weight: factor_of(group) * (entry % UNIT),
+        weight: factor_of(group) * pulses::weight_of(entry),
     }
 }
 
@@ -79,8 +79,8 @@ fn factor_of(group: usize) -> u32
 // the field of each group
 const FIELDS: [u8; 24] = [
     0,
-    1,
     0,
+    1,
     2,
     2,
     3,
@@ -107,11 +107,11 @@ const FIELDS: [u8; 24] = [
 // what the weights of a group of decimal digits are to be multiplied by
 const FACTORS: [u32; 14] = [1, 1, 1, 1, 10, 1, 10, 1, 10, 1, 10, 100, 1, 10];
 
-const UNIT: u32 = 1048576;
+const UNIT: u32 = 134217728;
 
 const ZERO: u32 = 0;
 
-const MARK: u32 = UNIT;
+const MARK: u32 = 2 * UNIT;
 
 const SECONDS: u32 = 3 * UNIT;
 

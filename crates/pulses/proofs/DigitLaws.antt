@@ -13,8 +13,8 @@ use lib.Dec.{T, eqb, eqb→eq}
 use lib.ListN.{length, getD}
 use lib.Pow.{pow-mono, mod-pow-add, shr-shr}
 use Rattle.laws.proofs.Tested.{and-left, and-right}
-use Rattle.pulses.specs.Row.{firstData, groupOf, weightOf, pulseFor, row, shareOf, sumOf, pulsesIn, doubling}
-use Rattle.pulses.proofs.EntryLaws.{pulse-data}
+use Rattle.pulses.specs.Row.{firstData, groupOf, weightOf, digitOf, pulseFor, row, shareOf, sumOf, pulsesIn, doubling}
+use Rattle.pulses.proofs.EntryLaws.{pulse-data, digit-is}
 
 twice : (k : ℕ) → 2 ^ suc k ≡ 2 * 2 ^ k
 twice k = pow-succ' 2 k
@@ -99,7 +99,7 @@ module _ (g : ℕ) (d : firstData ≤ g) (v : List ℕ) where
       → cond a (weightOf e * (pulseFor e v % 2)) 0 + sumOf t (row t v) g ≡ part (getD v g 0) k (cond a (suc (pulsesIn t g)) (pulsesIn t g))
   digits-more e t k ih false f = omega (arith, ih k (f .1))
   digits-more e t k ih true f =
-      let p : pulseFor e v ≡ getD v g 0 / 2 ^ k % 2 = pulse-data e v (rw (f .0) d) ∙ rw (f .0, f .1) in
+      let p : pulseFor e v ≡ getD v g 0 / 2 ^ k % 2 = pulse-data e v k (rw (f .0) d) (f .1) ∙ rw (f .0) in
       rw (p, f .1, ih (suc k) (f .2)) (part-more (getD v g 0) k (pulsesIn t g))
 
   digits : (t : List ℕ) (k : ℕ) → T (doubling t g k) → sumOf t (row t v) g ≡ part (getD v g 0) k (pulsesIn t g)
@@ -116,16 +116,16 @@ module _ (g : ℕ) (d : firstData ≤ g) (v : List ℕ) where
 
 module _ (g : ℕ) where
   digit-here : (e : ℕ) (t s : List ℕ) (b k low : ℕ) → groupOf e ≡ g → low < 2 ^ k → (a : Bool) → First e t g k a
-      → (low + (cond a (weightOf e * (b % 2)) 0 + sumOf t s g)) / weightOf e % 2 ≡ b % 2
+      → digitOf (low + (cond a (weightOf e * (b % 2)) 0 + sumOf t s g)) (weightOf e) ≡ b % 2
   digit-here e t s b k low p l false f = absurd (f .0 p)
   digit-here e t s b k low p l true f =
       let m = multiple t s g (suc k) (f .2) in
       let S : low + (2 ^ k * (b % 2) + sumOf t s g) ≡ (m .0 * 2 + b % 2) * 2 ^ k + low = rw (m .1, twice k) (omega arith) in
-      rw (f .1, S, digits-div (m .0 * 2 + b % 2) l, digits-mod (m .0) (bit-small b))
+      rw (f .1, S, digit-is ((m .0 * 2 + b % 2) * 2 ^ k + low) k, digits-div (m .0 * 2 + b % 2) l, digits-mod (m .0) (bit-small b))
 
   digit-later : (e : ℕ) (t s : List ℕ) (b w x k low : ℕ)
-      → ((j m : ℕ) → T (doubling t g j) → m < 2 ^ j → (m + sumOf t s g) / w % 2 ≡ x) → low < 2 ^ k → (a : Bool) → First e t g k a
-      → (low + (cond a (weightOf e * (b % 2)) 0 + sumOf t s g)) / w % 2 ≡ x
+      → ((j m : ℕ) → T (doubling t g j) → m < 2 ^ j → digitOf (m + sumOf t s g) w ≡ x) → low < 2 ^ k → (a : Bool) → First e t g k a
+      → digitOf (low + (cond a (weightOf e * (b % 2)) 0 + sumOf t s g)) w ≡ x
   digit-later e t s b w x k low ih l false f =
       let S : low + (0 + sumOf t s g) ≡ low + sumOf t s g = omega arith in
       rw S (ih k low (f .1) l)
@@ -135,7 +135,7 @@ module _ (g : ℕ) where
       rw (f .1, S) (ih (suc k) (low + 2 ^ k * (b % 2)) (f .2) L)
 
   digit : (t s : List ℕ) (i k low : ℕ) → T (doubling t g k) → low < 2 ^ k → i < length t → i < length s → groupOf (getD t i 0) ≡ g
-      → (low + sumOf t s g) / weightOf (getD t i 0) % 2 ≡ getD s i 0 % 2
+      → digitOf (low + sumOf t s g) (weightOf (getD t i 0)) ≡ getD s i 0 % 2
   unfolding sumOf shareOf
   digit [] s i k low h l a b p = absurd (not-suc-le-zero a)
   digit (e ∷ t) [] i k low h l a b p = absurd (not-suc-le-zero b)
@@ -145,6 +145,6 @@ module _ (g : ℕ) where
       (λ j m u v. digit t s i j m u v (omega arith) (omega arith) p) l (eqb (groupOf e) g) (first e t g k h)
 
   pub digit-of-sum : (t s : List ℕ) (i : ℕ) → T (doubling t g 0) → i < length t → i < length s → groupOf (getD t i 0) ≡ g
-      → sumOf t s g / weightOf (getD t i 0) % 2 ≡ getD s i 0 % 2
+      → digitOf (sumOf t s g) (weightOf (getD t i 0)) ≡ getD s i 0 % 2
   digit-of-sum t s i h a b p =
-      ap (λ (n : ℕ). n / weightOf (getD t i 0) % 2) (sym (zero-add (sumOf t s g))) ∙ digit t s i 0 0 h (omega arith) a b p
+      ap (λ (n : ℕ). digitOf n (weightOf (getD t i 0))) (sym (zero-add (sumOf t s g))) ∙ digit t s i 0 0 h (omega arith) a b p

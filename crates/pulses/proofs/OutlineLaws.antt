@@ -10,7 +10,7 @@ use lib.ListN.{length, getD, drop, drop-of-length-le}
 use lib.Seq.{drop-cons}
 use borrow.Author.Tests.{eq-eqb, eqb-true}
 use Rattle.laws.proofs.Bools.{both, never}
-use Rattle.pulses.specs.Row.{groupOf}
+use Rattle.pulses.specs.Row.{marks, groupOf}
 use Rattle.pulses.specs.Outline.{inOutline, outlineOf}
 
 -- the outline at place i
@@ -56,6 +56,6 @@ outline-each (x ∷ t) (b ∷ s) e zero h = both (inOutline x b) (outlineOf t s)
 outline-each (x ∷ t) (b ∷ s) e (suc i) h = outline-each t s (both (inOutline x b) (outlineOf t s) e .1) i (le-of-suc-le-suc h)
 
 -- where the table has a mark, a row in outline has a 2
-pub outline-mark : (e b : ℕ) → groupOf e ≡ 1 → inOutline e b ≡ true → b ≡ 2
+pub outline-mark : (e b : ℕ) → groupOf e ≡ marks → inOutline e b ≡ true → b ≡ 2
 unfolding inOutline
-outline-mark e b g h = eqb-true b 2 (rw (eq-eqb (groupOf e) 1 g) at h)
+outline-mark e b g h = eqb-true b 2 (rw (eq-eqb (groupOf e) marks g) at h)

@@ -10,8 +10,8 @@ use native.Mathlib.Omega.{arith}
 use borrow.Author.Tests.{le-leb, lt-leb}
 use lib.ListN.{length, getD, take, drop, set, length-append, length-drop, length-set}
 use lib.Seq.{drop-cons, take-suc, set-at, length-take-le, ext-getD, take-at, take-length, drop-at, getD-set-same, getD-set-other, set-append-left}
-use Rattle.pulses.specs.Row.{groupOf, weightOf, firstData, pulseOf, pulseFor, goodPulses, row, fitsIn, laid}
-use Rattle.pulses.proofs.EntryLaws.{pulse-allowed, pulse-data, pulse-for-same}
+use Rattle.pulses.specs.Row.{groupOf, weightOf, firstData, digitOf, pulseOf, pulseFor, goodPulses, row, fitsIn, laid}
+use Rattle.pulses.proofs.EntryLaws.{pulse-allowed, pulse-data, pulse-for-same, fixed-pulse, data-pulse}
 
 pub length-row : (t v : List ℕ) → length (row t v) ≡ length t
 unfolding row
@@ -54,7 +54,7 @@ module _ (t v : List ℕ) (g p x : ℕ) (a : Alone t g p) (k : g < length v) (sm
   its-pulse : pulseFor (getD t p 0) (set v g x) ≡ x
   its-pulse =
       let d : firstData ≤ groupOf (getD t p 0) = rw (a .group) (a .known) in
-      pulse-data (getD t p 0) (set v g x) d ∙ rw (a .group, a .weight, getD-set-same v g x 0 k) (omega arith)
+      pulse-data (getD t p 0) (set v g x) 0 d (a .weight) ∙ rw (a .group, getD-set-same v g x 0 k) (omega arith)
 
   same-pulse : (i : ℕ) → i < length t → Dec (i ≡ p) → getD (set (row t v) p x) i 0 ≡ getD (row t (set v g x)) i 0
   same-pulse i h (yes e) =
@@ -103,11 +103,17 @@ module _ (t v out : List ℕ) where
       )
       (sym (append-assoc (row (take i t) v) (pulseFor (getD t i 0) v ∷ []) (drop (suc i) out)))
 
-  -- with the pulse that is worked out from the entry's group
-  pub laid-store : (now : List ℕ) (i g x : ℕ) → now ≡ laidTo t v out i → i < length t → i < length out → g ≡ groupOf (getD t i 0)
-      → x ≡ pulseOf (getD t i 0) (getD v g 0) → set now i x ≡ laidTo t v out (i + 1)
-  unfolding pulseFor
-  laid-store now i g x e h k p q = rw (e, q, p) (laid-more i h k)
+  -- with the pulse as it is worked out: of a group that is fixed, and of one that holds data
+  module _ (now : List ℕ) (i g : ℕ) (e : now ≡ laidTo t v out i) (h : i < length t) (k : i < length out) (p : g ≡ groupOf (getD t i 0)) where
+    stored : (x : ℕ) → x ≡ pulseOf (getD t i 0) (getD v g 0) → set now i x ≡ laidTo t v out (i + 1)
+    unfolding pulseFor
+    stored x q = rw (e, q, p) (laid-more i h k)
+
+    pub fixed-stored : g < firstData → set now i g ≡ laidTo t v out (i + 1)
+    fixed-stored f = stored g (p ∙ sym (fixed-pulse (getD t i 0) (getD v g 0) (omega arith)))
+
+    pub data-stored : (w x : ℕ) → firstData ≤ g → w ≡ weightOf (getD t i 0) → x ≡ digitOf (getD v g 0) w → set now i x ≡ laidTo t v out (i + 1)
+    data-stored w x d q r = stored x (r ∙ rw q (sym (data-pulse (getD t i 0) (getD v g 0) (omega arith))))
 
   pub laid-all : (i : ℕ) → length t ≤ i → i ≤ length t → length t ≤ length out → laidTo t v out i ≡ laid t v out
   unfolding laid fitsIn

@@ -4,12 +4,14 @@ use mathlib.Core.Bool.{true, false}
 use mathlib.Core.List.{List}
 use Prim.Native.Nat.{ℕ, _+_, _*_, _%_, _<_, _≤_, min}
 use native.Mathlib.Omega.{arith}
+use borrow.Author.Tests.{eq-eqb, ne-eqb, lt-ltb, le-ltb}
 use lib.ListN.{length, getD, take, set, replicate, length-take}
 use lib.Seq.{getD-take, take-all}
 use Rattle.pulses.specs.declared.Scan.{Scan}
-use Rattle.pulses.specs.Row.{unit, groups, mostPlaces, groupOf, weightOf, pulseAllowed, goodPulses, sumOf, sumsOf, goodOf, scanOf}
+use Rattle.pulses.specs.Row.{weights, groups, firstData, mostPlaces, groupOf, weightOf, pulseAllowed, goodPulses, sumOf, sumsOf, goodOf, scanOf}
+use Rattle.pulses.proofs.EntryLaws.{fixed-allowed, data-allowed}
 use Rattle.pulses.proofs.GoodLaws.{Counted, counted-none, counted-more, counted-stops, counted-ends}
-use Rattle.pulses.proofs.SumLaws.{Gathered, gathered-none, gathered-more, gathered-all}
+use Rattle.pulses.proofs.SumLaws.{Gathered, gathered-none, gathered-fixed, gathered-more, gathered-all}
 
 -- the first i places are good, and v holds what they add
 pub record Passed (t s v : List ℕ) (i : ℕ) : Type 0 where
@@ -39,19 +41,36 @@ module _ (t s : List ℕ) where
     here : getD (take mostPlaces t) i 0 ≡ getD t i 0
     here = getD-take mostPlaces t i 0 m
 
-    -- a bad pulse
-    pub passed-stops : pulseAllowed (getD t i 0) (getD s i 0) ≡ false → record { good = i; sums = v } ≡ scanOf t s
+    stops : pulseAllowed (getD t i 0) (getD s i 0) ≡ false → record { good = i; sums = v } ≡ scanOf t s
     unfolding goodOf
-    passed-stops e = ends v i a (counted-stops (take mostPlaces t) s i (a .counted) within k (rw here e))
+    stops e = ends v i a (counted-stops (take mostPlaces t) s i (a .counted) within k (rw here e))
 
-    -- a good one, with what it adds
-    pub passed-more : pulseAllowed (getD t i 0) (getD s i 0) ≡ true → (f x : ℕ) → f ≡ groupOf (getD t i 0)
-        → x ≡ weightOf (getD t i 0) * (getD s i 0 % 2) → x < unit → Passed t s (set v f (getD v f 0 + x)) (i + 1)
-    passed-more e f x p q r =
-        record {
-          counted = counted-more (take mostPlaces t) s i (a .counted) within k (rw here e);
-          gathered = gathered-more (take mostPlaces t) s v i f x (a .gathered) within k (rw here p) (rw here q) r;
-        }
+    more : pulseAllowed (getD t i 0) (getD s i 0) ≡ true → Counted (take mostPlaces t) s (i + 1)
+    more e = counted-more (take mostPlaces t) s i (a .counted) within k (rw here e)
+
+    module _ (g : ℕ) (p : g ≡ groupOf (getD t i 0)) where
+      -- a pulse of a fixed group
+      pub fixed-stops : g < firstData → (getD s i 0 ≡ g → ⊥) → record { good = i; sums = v } ≡ scanOf t s
+      fixed-stops f d = stops (fixed-allowed (getD t i 0) (getD s i 0) (omega arith) ∙ rw (← p) (ne-eqb (getD s i 0) g d))
+
+      pub fixed-more : g < firstData → getD s i 0 ≡ g → Passed t s v (i + 1)
+      fixed-more f e =
+          record {
+            counted = more (fixed-allowed (getD t i 0) (getD s i 0) (omega arith) ∙ rw (← p) (eq-eqb (getD s i 0) g e));
+            gathered = gathered-fixed (take mostPlaces t) s v i (a .gathered) within k (rw here (omega arith));
+          }
+
+      -- a pulse of data, with what it adds
+      pub data-stops : firstData ≤ g → 2 ≤ getD s i 0 → record { good = i; sums = v } ≡ scanOf t s
+      data-stops d e = stops (data-allowed (getD t i 0) (getD s i 0) (omega arith) ∙ le-ltb (getD s i 0) 2 e)
+
+      pub data-more : firstData ≤ g → getD s i 0 < 2 → (x : ℕ) → x ≡ weightOf (getD t i 0) * (getD s i 0 % 2) → x < weights
+          → Passed t s (set v g (getD v g 0 + x)) (i + 1)
+      data-more d e x q r =
+          record {
+            counted = more (data-allowed (getD t i 0) (getD s i 0) (omega arith) ∙ lt-ltb (getD s i 0) 2 e);
+            gathered = gathered-more (take mostPlaces t) s v i g x (a .gathered) within k (rw here p) (rw here q) r;
+          }
 
 -- ---- a table of no more places than are read
 

@@ -11,8 +11,8 @@ use borrow.Author.Tests.{eq-eqb, ne-eqb}
 use lib.Dec.{eqb}
 use lib.ListN.{length, getD, take, set, replicate, length-append, length-set, List·getD-append}
 use lib.Seq.{ext-getD, getD-at, getD-set-same, getD-set-other, take-all}
-use Rattle.pulses.specs.Row.{unit, groups, mostPlaces, groupOf, weightOf, shareOf, sumOf, upTo, sumsOf}
-use Rattle.pulses.proofs.EntryLaws.{group-small}
+use Rattle.pulses.specs.Row.{weights, groups, firstData, mostPlaces, groupOf, weightOf, shareOf, sumOf, upTo, sumsOf}
+use Rattle.pulses.proofs.EntryLaws.{group-small, fixed-weight}
 
 -- ---- a list by its places
 
@@ -83,7 +83,7 @@ at-most true x = le-refl x
 at-most false x = omega arith
 
 pub gathered-more : (t s v : List ℕ) (i f x : ℕ) → Gathered t s v i → i < length t → i < length s → f ≡ groupOf (getD t i 0)
-    → x ≡ weightOf (getD t i 0) * (getD s i 0 % 2) → x < unit → Gathered t s (set v f (getD v f 0 + x)) (i + 1)
+    → x ≡ weightOf (getD t i 0) * (getD s i 0 % 2) → x < weights → Gathered t s (set v f (getD v f 0 + x)) (i + 1)
 unfolding shareOf
 gathered-more t s v i f x a h k p q r =
     let l : f < length v = omega (arith, a .long, group-small (getD t i 0)) in
@@ -92,6 +92,19 @@ gathered-more t s v i f x a h k p q r =
       long = length-set v f (getD v f 0 + x) ∙ a .long;
       holds = λ g. rw add-one (omega (arith, added v f x g l, a .holds g, m g));
       small = λ g. omega (arith, added v f x g l, a .small g, at-most (eqb f g) x);
+    }
+
+-- a pulse of a fixed group adds nothing
+pub gathered-fixed : (t s v : List ℕ) (i : ℕ) → Gathered t s v i → i < length t → i < length s → groupOf (getD t i 0) < firstData
+    → Gathered t s v (i + 1)
+unfolding shareOf
+gathered-fixed t s v i a h k f =
+    let m : (g : ℕ) → sumOf t (take (suc i) s) g ≡ sumOf t (take i s) g + cond (eqb (groupOf (getD t i 0)) g) (0 * (getD s i 0 % 2)) 0 =
+    λ g. sum-grows t s i g h k ∙ rw (fixed-weight (getD t i 0) f) in
+    record {
+      long = a .long;
+      holds = λ g. rw add-one (omega (arith, a .holds g, m g, at-most (eqb (groupOf (getD t i 0)) g) (0 * (getD s i 0 % 2))));
+      small = λ g. omega (arith, a .small g);
     }
 
 -- what is gathered is the list of sums

@@ -8,12 +8,22 @@ use mathlib.Core.Path.{_≡_}
 use Rattle.laws.proofs.Coincide.{Coincide}
 use Rattle.pulses.proofs.outline.outlined.Kinds as outlined-kinds
 use Rattle.pulses.proofs.outline.outlined.Reads as outlined-reads
+use Rattle.pulses.proofs.group_of.Reads as group-of-reads
+use Rattle.pulses.proofs.group_of.Kinds as group-of-kinds
+use Rattle.pulses.proofs.weight_of.Reads as weight-of-reads
+use Rattle.pulses.proofs.weight_of.Kinds as weight-of-kinds
 use Rattle.pulses.proofs.scanned.Reads as scanned-reads
 use Rattle.pulses.proofs.scanned.Kinds as scanned-kinds
 use Rattle.pulses.proofs.lay.Reads as lay-reads
 use Rattle.pulses.proofs.lay.Kinds as lay-kinds
 use Rattle.pulses.proofs.ones.Reads as ones-reads
 use Rattle.pulses.proofs.ones.Kinds as ones-kinds
+
+pub group-of-one : Coincide 0 group-of-kinds.ps group-of-kinds.r group-of-reads.Post
+group-of-one κs a x y e f p q = cc
+
+pub weight-of-one : Coincide 0 weight-of-kinds.ps weight-of-kinds.r weight-of-reads.Post
+weight-of-one κs a x y e f p q = cc
 
 pub scanned-one : Coincide 2 scanned-kinds.ps scanned-kinds.r scanned-reads.Post
 scanned-one κs a x y e f p q = cc

@@ -3,11 +3,11 @@ use mathlib.Core.Bool.{Bool, true, false, cond, _&&_}
 use mathlib.Core.List.{List, [], _∷_}
 use Prim.Native.Nat.{ℕ}
 use lib.Dec.{eqb, ltb}
-use Rattle.pulses.specs.Row.{groupOf}
+use Rattle.pulses.specs.Row.{marks, groupOf}
 
 -- a 2 where the table has a mark, 0 or 1 where it has none
 unfoldable pub inOutline : ℕ → ℕ → Bool
-inOutline e b = cond (eqb (groupOf e) 1) (eqb b 2) (ltb b 2)
+inOutline e b = cond (eqb (groupOf e) marks) (eqb b 2) (ltb b 2)
 
 -- as many pulses as the table has, each in the outline
 unfoldable pub outlineOf : List ℕ → List ℕ → Bool

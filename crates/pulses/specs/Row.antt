@@ -1,8 +1,9 @@
--- A row of pulses and the table that drives it: a number for each place, which is its group times 1048576 and its weight.
--- Group 0 is a pulse that is always 0, group 1 a mark (a 2), group 2 a pulse that is always 1; the groups 3 to 31 hold data.
+-- A row of pulses and the table that drives it: a number for each place, which is its group times 134217728 and its weight.
+-- The groups 0, 1 and 2 are fixed: their pulse is always a 0, a 1 or a mark (a 2). The groups 3 to 31 hold data.
 use mathlib.Core.Bool.{Bool, true, cond, _&&_}
 use mathlib.Core.List.{List, [], _∷_, _++_}
 use Prim.Native.Nat.{ℕ, zero, suc, _+_, _-_, _*_, _/_, _%_, _^_}
+use lib.Bits.{bitAnd}
 use lib.Dec.{leb, ltb, eqb}
 use lib.ListN.{length, getD, take, drop}
 use Rattle.laws.proofs.Tested.{below}
@@ -10,11 +11,19 @@ use Rattle.pulses.specs.declared.Scan.{Scan}
 
 -- what one group is worth in an entry
 abbrev pub unit : ℕ
-unit = 1048576
+unit = 134217728
+
+-- every weight is below this
+abbrev pub weights : ℕ
+weights = 1048576
 
 -- the number of groups
 abbrev pub groups : ℕ
 groups = 32
+
+-- the group of marks
+abbrev pub marks : ℕ
+marks = 2
 
 -- the first group that holds data
 abbrev pub firstData : ℕ
@@ -24,22 +33,19 @@ firstData = 3
 unfoldable pub groupOf : ℕ → ℕ
 groupOf e = e / unit % groups
 
--- the weight of an entry
-unfoldable pub weightOf : ℕ → ℕ
-weightOf e = e % unit
+-- the entry is of a group that is fixed
+abbrev pub isFixed : ℕ → Bool
+isFixed e = ltb (groupOf e) firstData
 
--- one of four things, by the group: where the pulse is always 0, a mark, always 1, and data
-abbrev pub byGroup : {A : Type 0} → ℕ → A → A → A → A → A
-byGroup zero a b c d = a
-byGroup (suc zero) a b c d = b
-byGroup (suc (suc zero)) a b c d = c
-byGroup (suc (suc (suc g))) a b c d = d
+-- the weight of an entry; a fixed pulse weighs nothing
+unfoldable pub weightOf : ℕ → ℕ
+weightOf e = cond (isFixed e) 0 (e % weights)
 
 -- ---- reading
 
 -- the byte b may stand at the entry e
 unfoldable pub pulseAllowed : ℕ → ℕ → Bool
-pulseAllowed e b = byGroup (groupOf e) (eqb b 0) (eqb b 2) (eqb b 1) (ltb b 2)
+pulseAllowed e b = cond (isFixed e) (eqb b (groupOf e)) (ltb b 2)
 
 -- how many pulses from the start are as the table asks, up to the end of the shorter
 unfoldable pub goodPulses : List ℕ → List ℕ → ℕ
@@ -80,9 +86,13 @@ scanOf t s = record { good = goodOf t s; sums = sumsOf t (take (goodOf t s) s) }
 
 -- ---- writing
 
--- the pulse at the entry e where its group says n: the digit of n that the weight picks (a weight of 0 picks a 0)
+-- the binary digit of n that weighs w: 1 where n and w have it in common
+unfoldable pub digitOf : ℕ → ℕ → ℕ
+digitOf n w = cond (eqb (bitAnd n w) 0) 0 1
+
+-- the pulse at the entry e where its group says n
 unfoldable pub pulseOf : ℕ → ℕ → ℕ
-pulseOf e n = byGroup (groupOf e) 0 2 1 (n / weightOf e % 2)
+pulseOf e n = cond (isFixed e) (groupOf e) (digitOf n (weightOf e))
 
 -- the pulse at the entry e where each group says its number among the values v
 unfoldable pub pulseFor : ℕ → List ℕ → ℕ

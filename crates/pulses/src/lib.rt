@@ -9,8 +9,7 @@ ghost use lib.ListN.{length};
 ghost use Rattle.pulses.specs.Row.{
   groupOf,
   weightOf,
-  pulseAllowed,
-  pulseOf,
+  digitOf,
   scanOf,
   fitsIn,
   laid,
@@ -20,7 +19,13 @@ ghost use Rattle.pulses.specs.Row.{
 };
 
 // An entry of a table is its group times this, and its weight.
-const UNIT: u32 = 1048576;
+const UNIT: u32 = 134217728;
+
+// Every weight is below this.
+const WEIGHTS: u32 = 1048576;
+
+// The first group that holds data. A pulse of a group below is always that group's number.
+const FIRST_DATA: usize = 3;
 
 // More places than this are not read, so that no sum outgrows its number.
 const PLACES: usize = 4096;
@@ -30,18 +35,23 @@ const WORD: usize = 63;
 
 const MOST: usize = 126;
 
-fn group_of(entry: u32) -> usize
+// The group of an entry.
+pub fn group_of(entry: u32) -> usize
     ensures { λ r. ⌜ r ≡ groupOf entry ⌝ }
     ensures { λ r. ⌜ r < 32 ⌝ }
 {
     (entry / UNIT % 32) as usize
 }
 
-fn weight_of(entry: u32) -> u32
+// The weight of an entry; a fixed pulse weighs nothing.
+pub fn weight_of(entry: u32) -> u32
     ensures { λ r. ⌜ r ≡ weightOf entry ⌝ }
     ensures { λ r. ⌜ r < 1048576 ⌝ }
 {
-    entry % UNIT
+    if group_of(entry) < FIRST_DATA {
+        return 0;
+    }
+    entry % WEIGHTS
 }
 
 fn smaller(a: usize, b: usize) -> usize
@@ -51,22 +61,6 @@ fn smaller(a: usize, b: usize) -> usize
         return a;
     }
     b
-}
-
-fn is_allowed(entry: u32, pulse: u8) -> bool
-    ensures { λ r. ⌜ r ≡ pulseAllowed entry pulse ⌝ }
-{
-    let group = group_of(entry);
-    if 2 < group {
-        return pulse < 2;
-    }
-    if group == 0 {
-        return pulse == 0;
-    }
-    if group == 1 {
-        return pulse == 2;
-    }
-    pulse == 1
 }
 
 // What a pulse adds to its group.
@@ -93,35 +87,31 @@ pub fn scanned(table: &[u32], pulses: &[u8]) -> Scan
     while i < end {
         let entry = table[i];
         let pulse = pulses[i];
-        if !is_allowed(entry, pulse) {
+        let group = group_of(entry);
+        if group < FIRST_DATA {
+            if pulse != group as u8 {
+                return Scan { good: i, sums };
+            }
+            i += 1;
+            continue;
+        }
+        if 1 < pulse {
             return Scan { good: i, sums };
         }
-        let group = group_of(entry);
         sums[group] = sums[group] + share(entry, pulse);
         i += 1;
     }
     Scan { good: i, sums }
 }
 
-// The pulse that says its part of the value of its group.
-fn pulse_of(entry: u32, value: u32) -> u8
-    ensures { λ r. ⌜ r ≡ pulseOf entry value ⌝ }
+// The binary digit of a value that a weight picks.
+fn digit_of(value: u32, weight: u32) -> u8
+    ensures { λ r. ⌜ r ≡ digitOf value weight ⌝ }
 {
-    let group = group_of(entry);
-    if group == 0 {
+    if value & weight == 0 {
         return 0;
     }
-    if group == 1 {
-        return 2;
-    }
-    if group == 2 {
-        return 1;
-    }
-    let weight = weight_of(entry);
-    if weight == 0 {
-        return 0;
-    }
-    (value / weight % 2) as u8
+    1
 }
 
 // Stores the row of pulses that says the values from the start of `out`, where it fits.
@@ -136,7 +126,12 @@ pub fn lay(out: &mut [u8], table: &[u32], values: [u32; 32]) -> bool
     while i < table.len() {
         let entry = table[i];
         let group = group_of(entry);
-        out[i] = pulse_of(entry, values[group]);
+        if group < FIRST_DATA {
+            out[i] = group as u8;
+            i += 1;
+            continue;
+        }
+        out[i] = digit_of(values[group], weight_of(entry));
         i += 1;
     }
     true

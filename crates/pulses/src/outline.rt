@@ -6,7 +6,7 @@ ghost use Rattle.pulses.specs.Outline.{inOutline, outlineOf};
 fn in_outline(entry: u32, pulse: u8) -> bool
     ensures { λ r. ⌜ r ≡ inOutline entry pulse ⌝ }
 {
-    if group_of(entry) == 1 {
+    if group_of(entry) == 2 {
         return pulse == 2;
     }
     pulse < 2

@@ -15,7 +15,7 @@ use Rattle.strings.specs.Checks.{dayBad as dayWrong, monthBad, weekdayBad, week
 use Rattle.meinberg.specs.Layout.{layout}
 use Rattle.meinberg.specs.Zones.{offsetOf, summerOf}
 use Rattle.meinberg.specs.Meaning.{qualityOf, coastingIn, meaning, faultIn as stringFault, readMeinberg}
-use Rattle.pulses.specs.Row.{groupOf, weightOf, pulseAllowed, pulseOf, pulseFor, row, goodPulses, shareOf, sumOf, sumsOf, upTo, onesFrom, liesWithin, onesOf}
+use Rattle.pulses.specs.Row.{groupOf, weightOf, pulseAllowed, pulseOf, digitOf, pulseFor, row, goodPulses, shareOf, sumOf, sumsOf, upTo, onesFrom, liesWithin, onesOf}
 use Rattle.irig_table.specs.Table.{framePulses}
 use Rattle.irig.specs.Meaning.{secondIn, minuteIn, hourIn, dayIn, digitsIn, halvesIn, addedIn, yearIn, monthDayIn, readingOf, dayBad, secondOfDayWrong, offsetBad}
 use Rattle.irig.specs.Faults.{isOdd, fieldsFault, valuesFault, faultIn as frameFault, readFrame}
@@ -29,5 +29,5 @@ use Rattle.worked.specs.Cases.{among, withOnes, cases}
 
 -- every case is answered as the paper answers it
 pub worked : map (λ (c : Case). answerTo (c .asked)) cases ≡ map (λ (c : Case). c .answer) cases
-unfolding cases among withOnes answerTo stampOf stampAt stampNumber hasStamp checkedOf timeBad dateBad sixtyBad leapMinute closesWithLeap afterLeap utcOf onDay utcMinutes inHundred yearOf west east offsetGood localOf number leapYear daysIn daysBefore yearLength daysBeforeYear dayOfYear dayNumber weekdayOf isMonth lastDay isDay isDate dayBefore dayAfter yearAfter monthUpTo inYear monthDay digit pair packed exactly from either oneOf within beside allowed goodPlaces dayWrong monthBad weekdayBad weekdayWrong faultOf layout offsetOf summerOf qualityOf coastingIn meaning stringFault readMeinberg groupOf weightOf pulseAllowed pulseOf pulseFor row goodPulses shareOf sumOf sumsOf upTo onesFrom liesWithin onesOf framePulses secondIn minuteIn hourIn dayIn digitsIn halvesIn addedIn yearIn monthDayIn readingOf dayBad secondOfDayWrong offsetBad isOdd fieldsFault valuesFault frameFault readFrame groupsOf frameValues parityOf frameOf sharedMarks lastMarks minuteMarks zoneOf dueLong plainOf evened withParity minuteValues bytesOf
+unfolding cases among withOnes answerTo stampOf stampAt stampNumber hasStamp checkedOf timeBad dateBad sixtyBad leapMinute closesWithLeap afterLeap utcOf onDay utcMinutes inHundred yearOf west east offsetGood localOf number leapYear daysIn daysBefore yearLength daysBeforeYear dayOfYear dayNumber weekdayOf isMonth lastDay isDay isDate dayBefore dayAfter yearAfter monthUpTo inYear monthDay digit pair packed exactly from either oneOf within beside allowed goodPlaces dayWrong monthBad weekdayBad weekdayWrong faultOf layout offsetOf summerOf qualityOf coastingIn meaning stringFault readMeinberg groupOf weightOf pulseAllowed pulseOf digitOf pulseFor row goodPulses shareOf sumOf sumsOf upTo onesFrom liesWithin onesOf framePulses secondIn minuteIn hourIn dayIn digitsIn halvesIn addedIn yearIn monthDayIn readingOf dayBad secondOfDayWrong offsetBad isOdd fieldsFault valuesFault frameFault readFrame groupsOf frameValues parityOf frameOf sharedMarks lastMarks minuteMarks zoneOf dueLong plainOf evened withParity minuteValues bytesOf
 worked = refl

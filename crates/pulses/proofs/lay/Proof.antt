@@ -5,7 +5,7 @@ use mathlib.Core.Path.{_≡_, sym, ap, _∙_}
 use Prim.Native.Nat.{_≤_, _-_}
 use denote.Ref.{now}
 use lib.ListN.{length}
-use Rattle.pulses.proofs.RowLaws.{laidTo, laid-none, laid-store, laid-all, length-laid, too-few, enough}
+use Rattle.pulses.proofs.RowLaws.{laidTo, laid-none, fixed-stored, data-stored, laid-all, length-laid, too-few, enough}
 use Rattle.pulses.proofs.lay.Statement.{statement}
 use Rattle.pulses.proofs.lay.Tie as tie
 
@@ -37,14 +37,8 @@ shared-slice-read-entry c = omega arith
 group-of-requires : tie.Need-group-of-requires Inv-loop μ-loop
 group-of-requires c κs = search needs
 
-mul-pulse-of : tie.Need-mul-pulse-of Inv-loop μ-loop
-mul-pulse-of c = omega arith
-
-array-read-pulse-of : tie.Need-array-read-pulse-of Inv-loop μ-loop
-array-read-pulse-of c = omega arith
-
-pulse-of-requires : tie.Need-pulse-of-requires Inv-loop μ-loop
-pulse-of-requires c κs = search needs
+cast-out : tie.Need-cast-out Inv-loop μ-loop
+cast-out c = omega arith
 
 slice-write-out : tie.Need-slice-write-out Inv-loop μ-loop
 slice-write-out c = let l = c .before .before .before .before in omega (arith, long l)
@@ -59,9 +53,39 @@ loop-again : tie.Need-loop-again Inv-loop μ-loop
 loop-again c =
     let l = c .before .before .before .before in
     let a = l .before .before .before .before .args in
-    let h =
-    laid-store (now (a .table)) (a .t3) (now (a .out)) (l .loop .out) (l .loop .i) (c .before .group-of .result) (c .pulse-of .result) in
-    (omega arith, h (l .loop .inv .1) (omega arith) (omega arith) (c .before .group-of .ensures .0) (c .pulse-of .ensures))
+    let g = c .before .group-of in
+    let h = fixed-stored (now (a .table)) (a .t3) (now (a .out)) (l .loop .out) (l .loop .i) (g .result) (l .loop .inv .1) in
+    (omega arith, h (omega arith) (omega arith) (g .ensures .0) (omega arith))
+
+mul-digit-of : tie.Need-mul-digit-of Inv-loop μ-loop
+mul-digit-of c = omega arith
+
+array-read-digit-of : tie.Need-array-read-digit-of Inv-loop μ-loop
+array-read-digit-of c = omega arith
+
+weight-of-requires : tie.Need-weight-of-requires Inv-loop μ-loop
+weight-of-requires c κs = search needs
+
+digit-of-requires : tie.Need-digit-of-requires Inv-loop μ-loop
+digit-of-requires c κs = search needs
+
+slice-write-out-2 : tie.Need-slice-write-out-2 Inv-loop μ-loop
+slice-write-out-2 c = let l = c .before .before .before .before .before .before in omega (arith, long l)
+
+add-i-2 : tie.Need-add-i-2 Inv-loop μ-loop
+add-i-2 c = omega arith
+
+loop-less-2 : tie.Need-loop-less-2 Inv-loop μ-loop
+loop-less-2 c = omega arith
+
+loop-again-2 : tie.Need-loop-again-2 Inv-loop μ-loop
+loop-again-2 c =
+    let l = c .before .before .before .before .before .before in
+    let a = l .before .before .before .before .args in
+    let g = c .before .before .before .group-of in
+    let w = c .before .weight-of in
+    let h = data-stored (now (a .table)) (a .t3) (now (a .out)) (l .loop .out) (l .loop .i) (g .result) (l .loop .inv .1) in
+    (omega arith, h (omega arith) (omega arith) (g .ensures .0) (w .result) (c .digit-of .result) (omega arith) (w .ensures .0) (c .digit-of .ensures))
 
 same-length : tie.Need-same-length Inv-loop μ-loop
 same-length c = long (c .before)
@@ -88,12 +112,18 @@ lay-spec =
     mul-entry
     shared-slice-read-entry
     group-of-requires
-    mul-pulse-of
-    array-read-pulse-of
-    pulse-of-requires
+    cast-out
     slice-write-out
     add-i
     loop-less
     loop-again
+    mul-digit-of
+    array-read-digit-of
+    weight-of-requires
+    digit-of-requires
+    slice-write-out-2
+    add-i-2
+    loop-less-2
+    loop-again-2
     same-length
     returns-2)

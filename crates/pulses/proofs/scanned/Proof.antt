@@ -3,8 +3,7 @@ use borrow.Author.Needs.{needs}
 use native.Mathlib.Omega.{arith}
 use Prim.Native.Nat.{_≤_, _-_}
 use denote.Ref.{now}
-use Rattle.laws.proofs.Bools.{failed, passed}
-use Rattle.pulses.proofs.ScanLaws.{Passed, passed-none, passed-more, passed-stops, passed-all}
+use Rattle.pulses.proofs.ScanLaws.{Passed, passed-none, fixed-stops, fixed-more, data-stops, data-more, passed-all}
 use Rattle.pulses.proofs.scanned.Statement.{statement}
 use Rattle.pulses.proofs.scanned.Tie as tie
 
@@ -32,17 +31,38 @@ shared-slice-read-entry c = omega arith
 shared-slice-read-pulse : tie.Need-shared-slice-read-pulse Inv-loop μ-loop
 shared-slice-read-pulse c = omega arith
 
-is-allowed-requires : tie.Need-is-allowed-requires Inv-loop μ-loop
-is-allowed-requires c κs = search needs
+group-of-requires : tie.Need-group-of-requires Inv-loop μ-loop
+group-of-requires c κs = search needs
+
+cast-if2 : tie.Need-cast-if2 Inv-loop μ-loop
+cast-if2 c = omega arith
 
 returns : tie.Need-returns Inv-loop μ-loop
 returns c =
-    let l = c .before .before .before .before .before in
-    passed-stops _ _ _ _ (l .loop .inv .1) (omega arith) (omega arith) (omega arith)
-    (failed (c .before .is-allowed .ensures) (c .if1 .taken))
+    let g = c .before .before in
+    let l = g .before .before .before .before in
+    fixed-stops _ _ _ _ (l .loop .inv .1) (omega arith) (omega arith) (omega arith) (g .group-of .result) (g .group-of .ensures .0) (omega arith)
+    (c .if2 .taken)
 
-group-of-requires : tie.Need-group-of-requires Inv-loop μ-loop
-group-of-requires c κs = search needs
+add-i : tie.Need-add-i Inv-loop μ-loop
+add-i c = omega arith
+
+loop-less : tie.Need-loop-less Inv-loop μ-loop
+loop-less c = omega arith
+
+loop-again : tie.Need-loop-again Inv-loop μ-loop
+loop-again c =
+    let g = c .before .before in
+    let l = g .before .before .before .before in
+    let h = fixed-more _ _ _ _ (l .loop .inv .1) (omega arith) (omega arith) (omega arith) (g .group-of .result) (g .group-of .ensures .0) in
+    (omega arith, h (omega arith) (c .if2 .left))
+
+returns-2 : tie.Need-returns-2 Inv-loop μ-loop
+returns-2 c =
+    let g = c .before .before in
+    let l = g .before .before .before .before in
+    data-stops _ _ _ _ (l .loop .inv .1) (omega arith) (omega arith) (omega arith) (g .group-of .result) (g .group-of .ensures .0) (omega arith)
+    (omega arith)
 
 mul-sums : tie.Need-mul-sums Inv-loop μ-loop
 mul-sums c = omega arith
@@ -55,8 +75,9 @@ share-requires c κs = search needs
 
 add-sums : tie.Need-add-sums Inv-loop μ-loop
 add-sums c =
-    let l = c .before .before .before .before .before .before .before in
-    omega (arith, l .loop .inv .1 .gathered .small (c .before .group-of .result))
+    let g = c .before .before .before in
+    let l = g .before .before .before .before in
+    omega (arith, l .loop .inv .1 .gathered .small (g .group-of .result))
 
 mul-sums-2 : tie.Need-mul-sums-2 Inv-loop μ-loop
 mul-sums-2 c = omega arith
@@ -64,25 +85,22 @@ mul-sums-2 c = omega arith
 array-write-sums : tie.Need-array-write-sums Inv-loop μ-loop
 array-write-sums c = omega arith
 
-add-i : tie.Need-add-i Inv-loop μ-loop
-add-i c = omega arith
+add-i-2 : tie.Need-add-i-2 Inv-loop μ-loop
+add-i-2 c = omega arith
 
-loop-less : tie.Need-loop-less Inv-loop μ-loop
-loop-less c = omega arith
+loop-less-2 : tie.Need-loop-less-2 Inv-loop μ-loop
+loop-less-2 c = omega arith
 
-loop-again : tie.Need-loop-again Inv-loop μ-loop
-loop-again c =
-    let f = c .before .before in
-    let l = f .before .before .before .before .before in
-    let a = l .before .before .before .before .before .args in
-    let g = c .before .group-of in
+loop-again-2 : tie.Need-loop-again-2 Inv-loop μ-loop
+loop-again-2 c =
+    let g = c .before .before .before in
+    let l = g .before .before .before .before in
     let x = c .share in
-    let h =
-    passed-more (now (a .table)) (now (a .pulses)) (l .loop .sums) (l .loop .i) (l .loop .inv .1) (omega arith) (omega arith) (omega arith) in
-    (omega arith, h (passed (f .before .is-allowed .ensures) (f .if1 .left)) (g .result) (x .result) (g .ensures .0) (x .ensures .0) (x .ensures .1))
+    let h = data-more _ _ _ _ (l .loop .inv .1) (omega arith) (omega arith) (omega arith) (g .group-of .result) (g .group-of .ensures .0) in
+    (omega arith, h (omega arith) (omega arith) (x .result) (x .ensures .0) (x .ensures .1))
 
-returns-2 : tie.Need-returns-2 Inv-loop μ-loop
-returns-2 c = passed-all _ _ _ _ (c .before .loop .inv .1) (omega arith)
+returns-3 : tie.Need-returns-3 Inv-loop μ-loop
+returns-3 c = passed-all _ _ _ _ (c .before .loop .inv .1) (omega arith)
 
 pub scanned-spec : {M : Type 1} → statement M
 scanned-spec =
@@ -96,16 +114,20 @@ scanned-spec =
     mul-entry
     shared-slice-read-entry
     shared-slice-read-pulse
-    is-allowed-requires
-    returns
     group-of-requires
+    cast-if2
+    returns
+    add-i
+    loop-less
+    loop-again
+    returns-2
     mul-sums
     array-read-sums
     share-requires
     add-sums
     mul-sums-2
     array-write-sums
-    add-i
-    loop-less
-    loop-again
-    returns-2)
+    add-i-2
+    loop-less-2
+    loop-again-2
+    returns-3)

@@ -2,11 +2,11 @@
 use borrow.Author.Needs.{needs}
 use native.Mathlib.Omega.{arith}
 use Prim.Native.Nat.{ℕ, zero, suc, _*_, _%_, _<_}
-use Rattle.pulses.specs.Row.{unit}
+use Rattle.pulses.specs.Row.{weights}
 use Rattle.pulses.proofs.share.Statement.{statement}
 use Rattle.pulses.proofs.share.Tie as tie
 
-small : (w x : ℕ) → w < unit → x < 2 → w * x < unit
+small : (w x : ℕ) → w < weights → x < 2 → w * x < weights
 small w zero h k = omega arith
 small w (suc zero) h k = omega arith
 small w (suc (suc x)) h k = absurd (omega arith)

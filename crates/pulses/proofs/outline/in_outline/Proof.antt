@@ -5,18 +5,18 @@ use mathlib.Core.Bool.{true, false}
 use Prim.Native.Nat.{ℕ}
 use lib.Dec.{eqb, ltb}
 use borrow.Author.Tests.{eq-eqb, ne-eqb}
-use Rattle.pulses.specs.Row.{groupOf}
+use Rattle.pulses.specs.Row.{marks, groupOf}
 use Rattle.pulses.specs.Outline.{inOutline}
 use Rattle.pulses.proofs.outline.in_outline.Statement.{statement}
 use Rattle.pulses.proofs.outline.in_outline.Tie as tie
 
-marked : (e b : ℕ) → groupOf e ≡ 1 → eqb b 2 ≡ inOutline e b
+marked : (e b : ℕ) → groupOf e ≡ marks → eqb b 2 ≡ inOutline e b
 unfolding inOutline
-marked e b h = rw (eq-eqb (groupOf e) 1 h)
+marked e b h = rw (eq-eqb (groupOf e) marks h)
 
-plain : (e b g : ℕ) → g ≡ groupOf e → (g ≡ 1 → ⊥) → ltb b 2 ≡ inOutline e b
+plain : (e b g : ℕ) → g ≡ groupOf e → (g ≡ marks → ⊥) → ltb b 2 ≡ inOutline e b
 unfolding inOutline
-plain e b g k d = rw (← k, ne-eqb g 1 d)
+plain e b g k d = rw (← k, ne-eqb g marks d)
 
 group-of-requires : tie.Need-group-of-requires
 group-of-requires c κs = search needs
