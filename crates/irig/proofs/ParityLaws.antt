@@ -3,22 +3,36 @@ use mathlib.Core.Path.{_≡_, refl, sym, ap, _∙_}
 use mathlib.Core.Bool.{not}
 use mathlib.Core.List.{List, _++_}
 use Prim.Native.Nat.{ℕ, _+_, _/_, _%_, _<_, _≤_}
-use native.Mathlib.Decide.{ℕ-discrete}
 use native.Mathlib.Omega.{arith}
 use lib.Dec.{eqb}
-use lib.ListN.{length, getD, drop, set, length-set, length-append}
-use lib.Seq.{ext-getD, getD-set-same, getD-set-other, set-append-left}
+use lib.ListN.{length, getD, drop, set, length-append}
+use lib.Seq.{getD-set-other, set-append-left}
 use Rattle.reading.specs.declared.Reading.{Reading}
 use Rattle.pulses.specs.Row.{groupOf, weightOf, row, laid, onesFrom, sumFrom, onesOf}
 use Rattle.pulses.proofs.EntryLaws.{pulse-data, pulse-for-same}
-use Rattle.pulses.proofs.RowLaws.{length-row, pulse-at, enough}
+use Rattle.pulses.proofs.RowLaws.{Alone, length-row, pulse-at, row-set, enough}
 use Rattle.pulses.proofs.OnesLaws.{ones-more, ones-same, ones-front, ones-of-part, parity-of-sum}
 use Rattle.irig_table.specs.Table.{framePulses, parity}
 use Rattle.irig_table.proofs.TableLaws.{frame-length, parity-alone}
 use Rattle.irig.specs.Faults.{frameLength, parityPlace, isOdd}
 use Rattle.irig.specs.Writing.{groupsOf, valuesOf, beforeParity, parityOf, frameOf}
 
+-- its pulse is the pulse 75, alone
+parity-place : Alone framePulses parity parityPlace
+unfolding framePulses groupOf weightOf
+parity-place = record {
+  placed = omega (arith, frame-length);
+  group = refl;
+  weight = refl;
+  known = omega arith;
+  only = λ i h e. parity-alone i (omega (arith, frame-length)) e;
+}
+
 module _ (r : Reading) (p : ℕ) where
+  has-group : parity < length (valuesOf r 0)
+  unfolding valuesOf groupsOf
+  has-group = omega arith
+
   -- the parity is the value of its own group alone
   its-group : valuesOf r p ≡ set (valuesOf r 0) parity p
   unfolding valuesOf groupsOf
@@ -55,20 +69,7 @@ module _ (r : Reading) (p : ℕ) where
 
     -- the row of another parity is the row with its pulse 75 changed
     pub set-parity : set (row framePulses (valuesOf r 0)) parityPlace p ≡ row framePulses (valuesOf r p)
-    set-parity =
-        ext-getD 0 (set zeroed parityPlace p) (row framePulses (valuesOf r p))
-        (length-set zeroed parityPlace p ∙ length-row framePulses (valuesOf r 0) ∙ sym (length-row framePulses (valuesOf r p)))
-        (λ i l. same i (omega (arith, length-set zeroed parityPlace p, long)) (ℕ-discrete i parityPlace))
-      where
-        zeroed : List ℕ
-        zeroed = row framePulses (valuesOf r 0)
-
-        long : length zeroed ≡ frameLength
-        long = length-row framePulses (valuesOf r 0) ∙ frame-length
-
-        same : (i : ℕ) → i < frameLength → Dec (i ≡ parityPlace) → getD (set zeroed parityPlace p) i 0 ≡ getD (row framePulses (valuesOf r p)) i 0
-        same i h (yes e) = rw e (getD-set-same zeroed parityPlace p 0 (omega (arith, long)) ∙ sym parity-pulse)
-        same i h (no d) = getD-set-other zeroed parityPlace i p 0 d ∙ sym (other-pulse i h d)
+    set-parity = row-set framePulses (valuesOf r 0) parity parityPlace p parity-place has-group small ∙ ap (row framePulses) (sym its-group)
 
 pub parity-is : (r : Reading) → parityOf r ≡ onesFrom 1 beforeParity (row framePulses (valuesOf r 0)) % 2
 unfolding parityOf
