@@ -1,24 +1,24 @@
--- `vectors::fed::with_commas` meets its contract: the line keeps within its buffer at every turn. Assumes nothing.
+-- `vectors::line::swapped` meets its contract: the line keeps within its buffer at every turn. Assumes nothing.
 use native.Mathlib.Omega.{arith}
 use borrow.Author.Needs.{needs}
 use mathlib.Core.Path.{_≡_}
 use Prim.Native.Nat.{_-_, _≤_}
 use lib.ListN.{length}
 use Rattle.vectors.specs.Line.{Kept}
-use Rattle.vectors.proofs.fed.with_commas.Statement.{statement}
-use Rattle.vectors.proofs.fed.with_commas.Tie as tie
+use Rattle.vectors.proofs.line.swapped.Statement.{statement}
+use Rattle.vectors.proofs.line.swapped.Tie as tie
 
 abbrev Inv-loop : tie.InvT-loop
-Inv-loop out₀ from to i₀ t5 out i = length out ≡ length out₀
+Inv-loop out₀ from to old new i₀ t7 out i = length out ≡ length out₀
 
 abbrev μ-loop : tie.MeasureT-loop
-μ-loop out₀ from to i₀ t5 out i = to - i
+μ-loop out₀ from to old new i₀ t7 out i = to - i
 
 loop-holds : tie.Need-loop-holds Inv-loop μ-loop
 loop-holds c = search needs
 
-joined-requires : tie.Need-joined-requires Inv-loop μ-loop
-joined-requires c κs = search needs
+swapped-at-requires : tie.Need-swapped-at-requires Inv-loop μ-loop
+swapped-at-requires c κs = search needs
 
 add-i : tie.Need-add-i Inv-loop μ-loop
 add-i c = omega arith
@@ -41,14 +41,14 @@ same-length c = search needs
 returns : tie.Need-returns Inv-loop μ-loop
 returns c = search needs
 
-pub with-commas-spec : {M : Type 1} → statement M
-with-commas-spec =
+pub swapped-spec : {M : Type 1} → statement M
+swapped-spec =
     tie.close
     (tie.spec
     Inv-loop
     μ-loop
     loop-holds
-    joined-requires
+    swapped-at-requires
     add-i
     loop-less
     loop-again
