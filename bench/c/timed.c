@@ -1,0 +1,102 @@
+/* The program crates/timed over the C baseline: one operation on each of the records that stand on standard input, and a
+   sum over the answers. */
+#include "cases.h"
+#include "formats.h"
+
+static uint64_t of_reading(const struct reading *r)
+{
+    return (uint64_t)r->year + r->month + r->day + r->hour + r->minute + r->second + (uint64_t)(r->offset < 0 ? -r->offset : r->offset)
+        + r->summer + r->leap + r->change + r->quality;
+}
+
+static uint64_t of_answer(struct answer a) { return 256 * (uint64_t)a.code + a.value; }
+
+static uint64_t read_by(uint8_t op, const uint8_t *record, size_t size)
+{
+    struct reading r;
+    struct answer a;
+    bool coasting = false;
+    uint16_t head = 0;
+    switch (op) {
+    case 1: a = meinberg_read(record, size, &r, &coasting); break;
+    case 2: a = erlangen_read(record, size, &r, &coasting); break;
+    case 3: a = frame_read(record, size, &r); break;
+    default: a = minute_read(record, size, &r, &head); break;
+    }
+    return a.code ? of_answer(a) : of_reading(&r) + coasting + head;
+}
+
+static uint64_t write_by(uint8_t op, const uint8_t *record, size_t size, uint8_t *page)
+{
+    struct reading r = reading_in(record);
+    uint16_t beside = (uint16_t)(record[12] + 256 * record[13]);
+    size_t room = record[14];
+    switch (op) {
+    case 5: return of_answer(meinberg_write(&r, beside != 0, page, room));
+    case 6: return of_answer(erlangen_write(&r, beside != 0, record + 15, size - 15, page, room));
+    case 7: return of_answer(frame_write(&r, page, room));
+    case 8: return of_answer(minute_write(&r, beside, page, room));
+    default: return of_reading(&r);
+    }
+}
+
+static uint64_t once(uint8_t op, const uint8_t *record, size_t size, uint8_t *page)
+{
+    switch (op) {
+    case 1: case 2: case 3: case 4: return read_by(op, record, size);
+    case 5: case 6: case 7: case 8: case 9: return write_by(op, record, size, page);
+    case 13: return of_answer(bridge(MEINBERG, record, size, page, PAGE));
+    case 14: return of_answer(bridge(ERLANGEN, record, size, page, PAGE));
+    default: return size;
+    }
+}
+
+static uint64_t frames(const uint8_t *pulses, size_t count)
+{
+    struct frame_reader f;
+    struct answer a;
+    struct reading r;
+    uint64_t sum = 0;
+    frame_reader_start(&f);
+    for (size_t i = 0; i < count; i++)
+        if (frame_reader_take(&f, pulses[i], &a, &r))
+            sum += a.code ? of_answer(a) : of_reading(&r);
+    return sum;
+}
+
+static uint64_t minutes(const uint8_t *symbols, size_t count)
+{
+    struct minute_reader m;
+    struct answer a;
+    struct reading r;
+    uint16_t head;
+    uint64_t sum = 0;
+    minute_reader_start(&m);
+    for (size_t i = 0; i < count; i++)
+        if (minute_reader_take(&m, symbols[i], &a, &r, &head))
+            sum += a.code ? of_answer(a) : of_reading(&r) + head;
+    return sum;
+}
+
+static uint64_t over(uint8_t op, size_t size, const uint8_t *records, size_t length, uint8_t *page)
+{
+    uint64_t sum = 0;
+    for (size_t at = 0; at < length; at += size)
+        sum += once(op, records + at, size, page);
+    return sum;
+}
+
+int main(void)
+{
+    static uint8_t input[65536], page[PAGE];
+    uint8_t head[2];
+    read_full(head, 2);
+    size_t length = read_full(input, sizeof input);
+    uint64_t sum = head[0] == 11 ? frames(input, length)
+        : head[0] == 12 ? minutes(input, length)
+        : over(head[0], head[1], input, length, page);
+    print_decimal(sum);
+    write(1, "\n", 1);
+    write(1, page, PAGE);
+    return 0;
+}
