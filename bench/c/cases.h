@@ -4,7 +4,8 @@
 
 #include "reading.h"
 
-enum { PAGE = 128 };
+/* A writer's record has a reading, what stands beside it and the room that is lent; then the position part. */
+enum { PAGE = 128, WRITER_LENGTH = 15 };
 
 static inline size_t read_full(uint8_t *buffer, size_t room)
 {
@@ -31,5 +32,7 @@ static inline struct reading reading_in(const uint8_t *p)
         .year = (uint16_t)(p[0] + 256 * p[1]), .month = p[2], .day = p[3], .hour = p[4], .minute = p[5], .second = p[6],
         .offset = (int8_t)p[7], .summer = p[8] != 0, .leap = p[9] != 0, .change = p[10] != 0, .quality = p[11]};
 }
+
+static inline uint16_t beside_in(const uint8_t *p) { return (uint16_t)(p[12] + 256 * p[13]); }
 
 #endif

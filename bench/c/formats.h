@@ -16,6 +16,8 @@ struct answer erlangen_write(const struct reading *r, bool coasting, const uint8
                              uint8_t *out, size_t room);
 
 struct answer frame_read(const uint8_t *s, size_t length, struct reading *r);
+/* Marks exactly where due, and 0 or 1 elsewhere, in 100 pulses. */
+bool frame_is_outlined(const uint8_t *s);
 struct answer frame_write(const struct reading *r, uint8_t *out, size_t room);
 
 struct answer minute_read(const uint8_t *s, size_t length, struct reading *r, uint16_t *head);

@@ -2,17 +2,26 @@
 #include "formats.h"
 #include "row.h"
 
+/* A 2 is a mark, a 0 is always 0, and a 1 stands for 0 or 1. */
 static const char outline[] =
     "2111101112" "1111011102" "1111011002" "1111011112" "1100000002"
     "1111011112" "1111111112" "1111110002" "1111111112" "1111111102";
-enum { PARITY = 75 };
+enum { MARK = 2, PARITY = 75 };
 
 static size_t first_bad_place(const uint8_t *s)
 {
     for (size_t i = 0; i < FRAME_LENGTH; i++)
-        if (!is_allowed(outline[i], s[i]))
+        if (outline[i] == '1' ? s[i] > 1 : s[i] != outline[i] - '0')
             return i;
     return FRAME_LENGTH;
+}
+
+bool frame_is_outlined(const uint8_t *s)
+{
+    for (size_t i = 0; i < FRAME_LENGTH; i++)
+        if (outline[i] == '2' ? s[i] != MARK : s[i] > 1)
+            return false;
+    return true;
 }
 
 static bool digit_over_nine(const uint8_t *s)
@@ -107,9 +116,9 @@ struct answer frame_write(const struct reading *r, uint8_t *out, size_t room)
     if (code)
         return refused(code);
     memset(out, 0, FRAME_LENGTH);
-    out[0] = 2;
+    out[0] = MARK;
     for (size_t mark = 9; mark < FRAME_LENGTH; mark += 10)
-        out[mark] = 2;
+        out[mark] = MARK;
     put_time(out, r);
     put_date(out, r);
     unsigned size = (unsigned)(r->offset < 0 ? -r->offset : r->offset);

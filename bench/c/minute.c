@@ -2,14 +2,13 @@
 #include "formats.h"
 #include "row.h"
 
-/* Marks 0 to 58; a 0 at 59 where there are 61, and the gap at the end. */
-static const char outline[] = "0111111111" "1111111111" "s111111111" "1111111111" "1111111111" "111111111";
-enum { MARKS = 59, GAP = 2 };
+enum { START = 20, MARKS = 59, GAP = 2 };
 
+/* Marks 0 to 58 are 0 or 1, but the first is 0 and mark 20 is 1; a 0 at 59 where there are 61, and the gap at the end. */
 static size_t first_bad_place(const uint8_t *s, size_t length)
 {
     for (size_t i = 0; i < MARKS; i++)
-        if (!is_allowed(outline[i], s[i]))
+        if (s[i] > (i == 0 ? 0 : 1) || (i == START && s[i] != 1))
             return i;
     if (length == LONG_MINUTE_LENGTH && s[MARKS] != 0)
         return MARKS;
@@ -78,7 +77,7 @@ static void put_marks(uint8_t *out, const struct reading *r, uint16_t head)
     out[17] = r->summer;
     out[18] = !r->summer;
     out[19] = r->leap;
-    out[20] = 1;
+    out[START] = 1;
     put_bits(out + 21, 4, r->minute % 10);
     put_bits(out + 25, 3, r->minute / 10);
     out[28] = is_odd(out, 21, 27);

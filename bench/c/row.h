@@ -4,12 +4,6 @@
 
 #include "plain.h"
 
-/* What a row's outline asks of a pulse: a 2 or a 0 is fixed, a 1 stands for any of 0 and 1, and an s is always 1. */
-static inline bool is_allowed(char due, uint8_t pulse)
-{
-    return due == '1' ? pulse <= 1 : due == 's' ? pulse == 1 : pulse == due - '0';
-}
-
 static inline unsigned bits(const uint8_t *s, unsigned count)
 {
     unsigned value = 0;

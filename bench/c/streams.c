@@ -9,17 +9,6 @@ void frame_reader_start(struct frame_reader *f)
     f->oldest = 0;
 }
 
-/* Marks exactly where due, and 0 or 1 elsewhere. */
-static bool is_outlined(const uint8_t *window)
-{
-    for (size_t i = 0; i < FRAME_LENGTH; i++) {
-        bool due = i == 0 || i % 10 == 9;
-        if (due ? window[i] != MARK : window[i] > 1)
-            return false;
-    }
-    return true;
-}
-
 bool frame_reader_take(struct frame_reader *f, uint8_t pulse, struct answer *a, struct reading *r)
 {
     f->last[f->oldest] = pulse;
@@ -30,7 +19,7 @@ bool frame_reader_take(struct frame_reader *f, uint8_t pulse, struct answer *a, 
     uint8_t window[FRAME_LENGTH];
     memcpy(window, f->last + f->oldest, FRAME_LENGTH - f->oldest);
     memcpy(window + FRAME_LENGTH - f->oldest, f->last, f->oldest);
-    if (!is_outlined(window))
+    if (!frame_is_outlined(window))
         return false;
     *a = frame_read(window, FRAME_LENGTH, r);
     return true;

@@ -11,39 +11,39 @@ static uint64_t of_reading(const struct reading *r)
 
 static uint64_t of_answer(struct answer a) { return 256 * (uint64_t)a.code + a.value; }
 
-static uint64_t read_by(uint8_t op, const uint8_t *record, size_t size)
+static uint64_t of_read(struct answer a, const struct reading *r, unsigned beside)
 {
-    struct reading r;
-    struct answer a;
-    bool coasting = false;
-    uint16_t head = 0;
-    switch (op) {
-    case 1: a = meinberg_read(record, size, &r, &coasting); break;
-    case 2: a = erlangen_read(record, size, &r, &coasting); break;
-    case 3: a = frame_read(record, size, &r); break;
-    default: a = minute_read(record, size, &r, &head); break;
-    }
-    return a.code ? of_answer(a) : of_reading(&r) + coasting + head;
+    return a.code ? of_answer(a) : of_reading(r) + beside;
 }
 
 static uint64_t write_by(uint8_t op, const uint8_t *record, size_t size, uint8_t *page)
 {
+    if (size < WRITER_LENGTH)
+        return 0;
     struct reading r = reading_in(record);
-    uint16_t beside = (uint16_t)(record[12] + 256 * record[13]);
-    size_t room = record[14];
+    uint16_t beside = beside_in(record);
+    size_t room = record[14] < PAGE ? record[14] : PAGE;
     switch (op) {
     case 5: return of_answer(meinberg_write(&r, beside != 0, page, room));
-    case 6: return of_answer(erlangen_write(&r, beside != 0, record + 15, size - 15, page, room));
+    case 6: return of_answer(erlangen_write(&r, beside != 0, record + WRITER_LENGTH, size - WRITER_LENGTH, page, room));
     case 7: return of_answer(frame_write(&r, page, room));
     case 8: return of_answer(minute_write(&r, beside, page, room));
     default: return of_reading(&r);
     }
 }
 
-static uint64_t once(uint8_t op, const uint8_t *record, size_t size, uint8_t *page)
+/* Not inlined, so that the choice of the operation is made for each record, as it is in crates/timed. */
+__attribute__((noinline)) static uint64_t once(uint8_t op, const uint8_t *record, size_t size, uint8_t *page)
 {
+    struct reading r;
+    bool coasting = false;
+    uint16_t head = 0;
+    struct answer a;
     switch (op) {
-    case 1: case 2: case 3: case 4: return read_by(op, record, size);
+    case 1: a = meinberg_read(record, size, &r, &coasting); return of_read(a, &r, coasting);
+    case 2: a = erlangen_read(record, size, &r, &coasting); return of_read(a, &r, coasting);
+    case 3: a = frame_read(record, size, &r); return of_read(a, &r, 0);
+    case 4: a = minute_read(record, size, &r, &head); return of_read(a, &r, head);
     case 5: case 6: case 7: case 8: case 9: return write_by(op, record, size, page);
     case 13: return of_answer(bridge(MEINBERG, record, size, page, PAGE));
     case 14: return of_answer(bridge(ERLANGEN, record, size, page, PAGE));
@@ -78,11 +78,19 @@ static uint64_t minutes(const uint8_t *symbols, size_t count)
     return sum;
 }
 
+/* Where the record that starts at `at` ends; the last may be cut off. */
+static size_t end_of(size_t at, size_t size, size_t length)
+{
+    return size < 1 || length - at < size ? length : at + size;
+}
+
 static uint64_t over(uint8_t op, size_t size, const uint8_t *records, size_t length, uint8_t *page)
 {
     uint64_t sum = 0;
-    for (size_t at = 0; at < length; at += size)
-        sum += once(op, records + at, size, page);
+    for (size_t at = 0, end; at < length; at = end) {
+        end = end_of(at, size, length);
+        sum += once(op, records + at, end - at, page);
+    }
     return sum;
 }
 

@@ -1,22 +1,15 @@
-// What a writer's record holds: bytes at places, and a reading in its first twelve.
+// What a writer's record holds: a reading in its first twelve bytes, what stands beside it, and the room that is lent.
 use reading::AddedToLocal;
 use reading::LocalMinusUtc;
 use reading::Reading;
+ghost use Prim.Native.Nat.{_≤_};
+ghost use lib.ListN.{length};
 
-// The byte at a place; past the end it is 0.
-pub(crate) fn byte(record: &[u8], at: usize) -> u8 {
-    if at < record.len() {
-        return record[at];
-    }
-    0
-}
+// The bytes before the position part.
+pub(crate) const LENGTH: usize = 15;
 
-// Two bytes, the lower first.
-pub(crate) fn pair(record: &[u8], at: usize) -> u16 {
-    if at < 200 {
-        return (byte(record, at) as u16) + 256 * (byte(record, at + 1) as u16);
-    }
-    0
+fn two(low: u8, high: u8) -> u16 {
+    (low as u16) + 256 * (high as u16)
 }
 
 // An offset as a signed byte: from 128 on it lies west, and its opposite is added to local time.
@@ -27,18 +20,31 @@ fn offset(b: u8) -> LocalMinusUtc {
     AddedToLocal((256 - (b as u16)) as i16).local()
 }
 
-pub(crate) fn reading_in(record: &[u8]) -> Reading {
+pub(crate) fn reading_in(given: &[u8]) -> Reading
+    requires { ⌜ 15 ≤ length (now given) ⌝ }
+{
     Reading {
-        year: pair(record, 0),
-        month: byte(record, 2),
-        day: byte(record, 3),
-        hour: byte(record, 4),
-        minute: byte(record, 5),
-        second: byte(record, 6),
-        offset: offset(byte(record, 7)),
-        summer: byte(record, 8) != 0,
-        leap: byte(record, 9) != 0,
-        change: byte(record, 10) != 0,
-        quality: byte(record, 11),
+        year: two(given[0], given[1]),
+        month: given[2],
+        day: given[3],
+        hour: given[4],
+        minute: given[5],
+        second: given[6],
+        offset: offset(given[7]),
+        summer: given[8] != 0,
+        leap: given[9] != 0,
+        change: given[10] != 0,
+        quality: given[11],
     }
+}
+
+// The coasting mark or the head.
+pub(crate) fn beside(given: &[u8]) -> u16
+    requires { ⌜ 15 ≤ length (now given) ⌝ }
+{
+    two(given[12], given[13])
+}
+
+pub(crate) fn signed(room: u8) -> isize {
+    room as isize
 }

@@ -9,21 +9,16 @@ use irig::Ieee1344;
 use meinberg::Meinberg;
 use std::num::wrapping_add_u64;
 ghost use Prim.Native.Nat.{_<_, _≤_};
+ghost use lib.ListN.{length};
 
-// What stands behind a reading and its beside: the position part.
-fn rest(record: &[u8]) -> &[u8] {
-    if record.len() < 15 {
-        return &record[0..0];
-    }
-    &record[15..]
-}
-
-fn write_by(op: u8, record: &[u8], out: &mut [u8]) -> u64 {
-    let r = fields::reading_in(record);
-    let beside = fields::pair(record, 12);
+fn write_by(op: u8, given: &[u8], out: &mut [u8]) -> u64
+    requires { ⌜ 15 ≤ length (now given) ⌝ }
+{
+    let r = fields::reading_in(given);
+    let beside = fields::beside(given);
     match op {
         5 => answers::of_written(Meinberg::write(r, beside != 0, out)),
-        6 => answers::of_written(Erlangen::write(r, beside != 0, rest(record), out)),
+        6 => answers::of_written(Erlangen::write(r, beside != 0, &given[15..], out)),
         7 => answers::of_written(Ieee1344::write(r, out)),
         8 => answers::of_written(Dcf77::write(r, beside, out)),
         _ => answers::of_reading(r),
@@ -31,25 +26,28 @@ fn write_by(op: u8, record: &[u8], out: &mut [u8]) -> u64 {
 }
 
 // A writer is lent as many bytes of the page as its record says.
-fn write_part(op: u8, record: &[u8], page: &mut [u8]) -> u64 {
-    let room = io::count(fields::byte(record, 14) as isize, page);
-    write_by(op, record, &mut page[..room])
+fn write_part(op: u8, given: &[u8], page: &mut [u8]) -> u64 {
+    if given.len() < fields::LENGTH {
+        return 0;
+    }
+    let room = io::count(fields::signed(given[14]), page);
+    write_by(op, given, &mut page[..room])
 }
 
-fn bridged(kind: Kind, record: &[u8], page: &mut [u8]) -> u64 {
-    answers::of_written(bridge(kind, record, page))
+fn bridged(kind: Kind, given: &[u8], page: &mut [u8]) -> u64 {
+    answers::of_written(bridge(kind, given, page))
 }
 
-fn once(op: u8, record: &[u8], page: &mut [u8]) -> u64 {
+fn once(op: u8, given: &[u8], page: &mut [u8]) -> u64 {
     match op {
-        1 => answers::of_string(Meinberg::read(record)),
-        2 => answers::of_string(Erlangen::read(record)),
-        3 => answers::of_frame(Ieee1344::read(record)),
-        4 => answers::of_minute(Dcf77::read(record)),
-        5..=9 => write_part(op, record, page),
-        13 => bridged(Kind::Meinberg, record, page),
-        14 => bridged(Kind::Erlangen, record, page),
-        _ => record.len() as u64,
+        1 => answers::of_string(Meinberg::read(given)),
+        2 => answers::of_string(Erlangen::read(given)),
+        3 => answers::of_frame(Ieee1344::read(given)),
+        4 => answers::of_minute(Dcf77::read(given)),
+        5..=9 => write_part(op, given, page),
+        13 => bridged(Kind::Meinberg, given, page),
+        14 => bridged(Kind::Erlangen, given, page),
+        _ => given.len() as u64,
     }
 }
 
