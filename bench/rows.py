@@ -9,7 +9,7 @@ GOAL = 1.25
 PULSE_GOAL = 150
 READ, WRITE, BRIDGE = 1, 5, 13
 FRAME_PULSES, MINUTE_PULSES = 11, 12
-# Operations that are the driver's work alone: the loop over the records, and that with a writer's reading taken apart.
+# Operations that are the driver's work alone: its loop over the records, and for writers the readings taken apart before.
 LOOP, DECODING = 0, 9
 
 # A row: its name, the operation, the record of each number, the driver's operation that is taken off.
@@ -74,8 +74,8 @@ def drivers(programs, length):
 def counted_rows(programs, length):
     """Each row's counts, the driver's work taken off."""
     own = drivers(programs, length)
-    yield Counted("driver: loop", *own[LOOP])
-    yield Counted("driver: loop and a reading taken apart", *own[DECODING])
+    yield Counted("driver of readers and bridge", *own[LOOP])
+    yield Counted("driver of writers", *own[DECODING])
     for row in record_rows():
         ours, plain = per_record(programs, row.op, row.record, length)
         yield Counted(row.name, ours - own[row.driver][0], plain - own[row.driver][1])

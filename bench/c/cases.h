@@ -5,7 +5,7 @@
 #include "reading.h"
 
 /* A writer's record has a reading, what stands beside it and the room that is lent; then the position part. */
-enum { PAGE = 128, WRITER_LENGTH = 15 };
+enum { PAGE = 128, WRITER_LENGTH = 15, MOST = 600 };
 
 static inline size_t read_full(uint8_t *buffer, size_t room)
 {

@@ -20,9 +20,26 @@ fn offset(b: u8) -> LocalMinusUtc {
     AddedToLocal((256 - (b as u16)) as i16).local()
 }
 
-pub(crate) fn reading_in(given: &[u8]) -> Reading
-    requires { ⌜ 15 ≤ length (now given) ⌝ }
-{
+pub(crate) fn blank() -> Reading {
+    Reading {
+        year: 0,
+        month: 0,
+        day: 0,
+        hour: 0,
+        minute: 0,
+        second: 0,
+        offset: LocalMinusUtc(0),
+        summer: false,
+        leap: false,
+        change: false,
+        quality: 0,
+    }
+}
+
+pub(crate) fn reading_in(given: &[u8]) -> Reading {
+    if given.len() < LENGTH {
+        return blank();
+    }
     Reading {
         year: two(given[0], given[1]),
         month: given[2],

@@ -5,9 +5,11 @@ mod answers;
 mod fields;
 mod pulses;
 mod records;
+mod writers;
 
 fn run(op: u8, size: u8, records: &[u8], page: &mut [u8]) -> u64 {
     match op {
+        5..=9 => writers::over(op, size as usize, records, page),
         11 => pulses::frames(records),
         12 => pulses::minutes(records),
         _ => records::over(op, size as usize, records, page),

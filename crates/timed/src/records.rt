@@ -1,6 +1,5 @@
-// One operation on each record.
+// Reading each record, or bridging it.
 use super::answers;
-use super::fields;
 use bridge::Kind;
 use bridge::bridge;
 use dcf77::Dcf77;
@@ -9,30 +8,6 @@ use irig::Ieee1344;
 use meinberg::Meinberg;
 use std::num::wrapping_add_u64;
 ghost use Prim.Native.Nat.{_<_, _≤_};
-ghost use lib.ListN.{length};
-
-fn write_by(op: u8, given: &[u8], out: &mut [u8]) -> u64
-    requires { ⌜ 15 ≤ length (now given) ⌝ }
-{
-    let r = fields::reading_in(given);
-    let beside = fields::beside(given);
-    match op {
-        5 => answers::of_written(Meinberg::write(r, beside != 0, out)),
-        6 => answers::of_written(Erlangen::write(r, beside != 0, &given[15..], out)),
-        7 => answers::of_written(Ieee1344::write(r, out)),
-        8 => answers::of_written(Dcf77::write(r, beside, out)),
-        _ => answers::of_reading(r),
-    }
-}
-
-// A writer is lent as many bytes of the page as its record says.
-fn write_part(op: u8, given: &[u8], page: &mut [u8]) -> u64 {
-    if given.len() < fields::LENGTH {
-        return 0;
-    }
-    let room = io::count(fields::signed(given[14]), page);
-    write_by(op, given, &mut page[..room])
-}
 
 fn bridged(kind: Kind, given: &[u8], page: &mut [u8]) -> u64 {
     answers::of_written(bridge(kind, given, page))
@@ -44,7 +19,6 @@ fn once(op: u8, given: &[u8], page: &mut [u8]) -> u64 {
         2 => answers::of_string(Erlangen::read(given)),
         3 => answers::of_frame(Ieee1344::read(given)),
         4 => answers::of_minute(Dcf77::read(given)),
-        5..=9 => write_part(op, given, page),
         13 => bridged(Kind::Meinberg, given, page),
         14 => bridged(Kind::Erlangen, given, page),
         _ => given.len() as u64,
@@ -52,7 +26,7 @@ fn once(op: u8, given: &[u8], page: &mut [u8]) -> u64 {
 }
 
 // Where the record that starts at `at` ends; the last may be cut off.
-fn end_of(at: usize, size: usize, length: usize) -> usize
+pub(crate) fn end_of(at: usize, size: usize, length: usize) -> usize
     requires { ⌜ at < length ⌝ }
     ensures { λ r. ⌜ (at < r) × (r ≤ length) ⌝ }
 {
