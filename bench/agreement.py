@@ -6,6 +6,7 @@ import sys
 import kit
 import records
 import rows
+from book import listing_text
 from case_parts import bridge_case, case
 
 STEP = 7
@@ -71,3 +72,14 @@ def compare(ours, plain, length):
             raise SystemExit(f"bench: {name}: {first_difference(cases, answers)}")
         total += len(cases)
     return total
+
+
+def compare_listings(programs, length):
+    """The same for the listing program: a book, books cut short, and some changes of a small one."""
+    whole, small = records.book(length), records.book(10)
+    books = [b"", whole, whole + bytes(65537), *(whole[:end] for end in range(0, len(whole), 997)), *damaged(small, 1009)]
+    for one in books:
+        wrote = [kit.output_of(program, one) for program in programs] + [listing_text(one).encode()]
+        if any(text != wrote[0] for text in wrote):
+            raise SystemExit(f"bench: listings differ on the book {one[:200].hex()}.. of {len(one)} bytes")
+    return len(books)

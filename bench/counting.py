@@ -33,12 +33,12 @@ def counted_by_emulator(program, given):
         pipe = os.path.join(folder, "trace")
         os.mkfifo(pipe)
         words = [str(kit.EMULATOR), "-one-insn-per-tb", "-d", "exec,nochain", "-D", pipe, *kit.LOADER, str(program)]
-        run = subprocess.Popen(words, stdin=subprocess.PIPE, stdout=subprocess.PIPE)
+        run = subprocess.Popen(words, stdin=given, stdout=subprocess.PIPE)
         answer = []
-        talk = threading.Thread(target=lambda: answer.append(run.communicate(given)[0]))
-        talk.start()
+        listen = threading.Thread(target=lambda: answer.append(run.communicate()[0]))
+        listen.start()
         count = lines_of(pipe)
-        talk.join()
+        listen.join()
     if run.returncode:
         raise SystemExit(f"bench: {program} ended with status {run.returncode}")
     return count, answer[0]
@@ -46,7 +46,7 @@ def counted_by_emulator(program, given):
 
 def counted_by_perf(program, given):
     words = ["perf", "stat", "-x,", "-e", "instructions:u", *kit.LOADER, str(program)]
-    run = subprocess.run(words, input=given, stdout=subprocess.PIPE, stderr=subprocess.PIPE, check=True)
+    run = subprocess.run(words, stdin=given, stdout=subprocess.PIPE, stderr=subprocess.PIPE, check=True)
     found = re.search(rb"^(\d+),[^\n]*instructions", run.stderr, re.M)
     if not found:
         raise SystemExit("bench: perf counts no instructions here")
@@ -54,5 +54,9 @@ def counted_by_perf(program, given):
 
 
 def counted(program, given):
-    """How many instructions a program executes on an input, from its start to its end, and what it writes."""
-    return counted_by_emulator(program, given) if kit.is_emulated() else counted_by_perf(program, given)
+    """How many instructions a program executes on an input, from its start to its end, and what it writes. The input is a
+    file, since a pipe gives it in parts that differ from run to run."""
+    with tempfile.TemporaryFile() as file:
+        file.write(given)
+        file.seek(0)
+        return counted_by_emulator(program, file) if kit.is_emulated() else counted_by_perf(program, file)

@@ -125,3 +125,15 @@ def frames(count):
 def minutes(count):
     """A gap, and minutes of 60 marks."""
     return b"\x02" + b"".join(accepted("DCF77", number) for number in range(1, count + 1))
+
+
+def book(count):
+    """Records of every kind in turn, one in ten of them refused."""
+    parts = []
+    for number in range(count):
+        place = number % 5
+        form = FORMATS[min(place, 3)]
+        body = accepted(form, number) if place < 4 else text_of(form, long_minute_of(number), number)
+        body = first_byte_wrong(form, number) if number % 50 in (3, 12, 21, 30, 49) and place < 4 else body
+        parts.append(bytes((place + 1,)) + body)
+    return b"".join(parts)

@@ -53,7 +53,7 @@ def both(programs, short, long):
     """The same for ours and the C baseline, which have to write the same."""
     (ours, wrote), (plain, wrote_too) = (difference(program, short, long) for program in programs)
     if wrote != wrote_too:
-        raise SystemExit(f"bench: the two programs differ on operation {long[0]}")
+        raise SystemExit(f"bench: {programs[0]} and {programs[1]} differ on an input that begins {long[:40]}")
     return ours, plain
 
 
@@ -99,3 +99,9 @@ def pulse_rows(programs):
         worst = pulses_between(programs, op, spoiled, at, at)
         yield Counted(f"pulse {form}, closes nothing (nearly)", *worst, PULSE_GOAL)
         yield Counted(f"pulse {form}, closes", *pulses_between(programs, op, stream, last + 1, last + 1))
+
+
+def listing_rows(programs, length):
+    """A record of the listing program, reading, stamping and printing together."""
+    ours, plain = both(programs, records.book(SHORT), records.book(length))
+    yield Counted("listed record", ours / (length - SHORT), plain / (length - SHORT))

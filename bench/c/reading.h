@@ -7,7 +7,7 @@
 
 enum {
     WRONG_LENGTH = 1, WRONG_BYTE, WRONG_DIGIT, WRONG_PARITY, OUT_OF_RANGE, WRONG_WEEKDAY, WRONG_SECOND_OF_DAY,
-    WRONG_OFFSET, WRONG_SECOND, DELETED, NOT_CARRIED
+    WRONG_OFFSET, WRONG_SECOND, DELETED, NOT_CARRIED, OUTSIDE_STAMPS, CUT_SHORT, UNKNOWN_KIND
 };
 
 struct reading {
@@ -42,11 +42,17 @@ static inline unsigned day_of_year(unsigned year, unsigned month, unsigned day)
     return before[month - 1] + day + (month > 2 && is_leap(year));
 }
 
-/* 1 is Monday; for the years 2000 to 2099, which start on a Saturday. */
-static inline unsigned weekday(unsigned year, unsigned month, unsigned day)
+/* The days since 1 January 2000, for the years 2000 to 2099. */
+static inline unsigned day_number(unsigned year, unsigned month, unsigned day)
 {
     unsigned years = year - 2000;
-    return (years * 365 + (years + 3) / 4 + day_of_year(year, month, day) + 4) % 7 + 1;
+    return years * 365 + (years + 3) / 4 + day_of_year(year, month, day) - 1;
+}
+
+/* 1 is Monday; 1 January 2000 is a Saturday. */
+static inline unsigned weekday(unsigned year, unsigned month, unsigned day)
+{
+    return (day_number(year, month, day) + 5) % 7 + 1;
 }
 
 static inline bool date_is_good(const struct reading *r)
@@ -102,6 +108,18 @@ static inline bool after_leap_minute(const struct reading *r)
 }
 
 static inline bool second_is_good(const struct reading *r) { return r->second != 60 || in_leap_minute(r); }
+
+/* The stamp of a reading that its reader accepted; false where its UTC day lies outside 2000 to 2099. */
+static inline bool stamp_of(const struct reading *r, uint64_t *stamp)
+{
+    int minute = r->hour * 60 + r->minute - 30 * r->offset;
+    int day = (int)day_number(r->year, r->month, r->day) + (minute < 0 ? -1 : minute >= 1440 ? 1 : 0);
+    if (day < 0 || day > 36524)
+        return false;
+    minute += minute < 0 ? 1440 : minute >= 1440 ? -1440 : 0;
+    *stamp = (uint64_t)day * 86401 + (uint64_t)minute * 60 + r->second;
+    return true;
+}
 
 /* What every writer asks of a reading: 0, or the lowest of the codes 5, 8 and 9. */
 static inline uint8_t reading_code(const struct reading *r)
