@@ -5,7 +5,8 @@
 
 static uint64_t of_reading(const struct reading *r)
 {
-    return (uint64_t)r->year + r->month + r->day + r->hour + r->minute + r->second + (uint64_t)(r->offset < 0 ? -r->offset : r->offset)
+    unsigned offset = (unsigned)(r->offset < 0 ? -r->offset : r->offset);
+    return (uint64_t)r->year + r->month + r->day + r->hour + r->minute + r->second + offset
         + r->summer + r->leap + r->change + r->quality;
 }
 
