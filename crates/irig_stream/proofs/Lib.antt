@@ -1,2 +1,4 @@
 pub mod StreamLaws
+pub mod FramesTold
+pub mod StandIns
 pub mod Unique
