@@ -1,15 +1,15 @@
 -- The shape of a minute that is written: marks of 0 or 1, and then the missing mark, a 2.
 use mathlib.Core.Bool.{Bool, true, false, not}
-use mathlib.Core.List.{List, [], _∷_, _++_}
-use mathlib.Core.Path.{_≡_, refl, sym, ap, _∙_, subst}
-use Prim.Native.Nat.{ℕ, zero, suc, _%_, _/_, _<_, _≤_}
+use mathlib.Core.List.{[], _∷_, _++_}
+use mathlib.Core.Path.{_≡_, refl, _∙_}
+use Prim.Native.Nat.{ℕ, zero, suc, _%_, _/_, _<_}
 use native.Mathlib.Omega.{arith}
 use lib.Dec.{T, eqb}
-use lib.ListN.{length, getD, take, drop, drop-of-length-le}
+use lib.ListN.{getD, take, drop, drop-of-length-le}
 use lib.Seq.{split-at}
 use Rattle.laws.proofs.Tested.{below, at}
 use Rattle.reading.specs.declared.Reading.{Reading}
-use Rattle.pulses.specs.Row.{groupOf, weightOf, byGroup, pulseOf, pulseFor, row}
+use Rattle.pulses.specs.Row.{groupOf, weightOf, byGroup, pulseOf, pulseFor}
 use Rattle.pulses.proofs.RowLaws.{pulse-at}
 use Rattle.dcf77_table.specs.Table.{sharedMarks, lastMarks, minuteMarks}
 use Rattle.dcf77.specs.Forms.{lengthOf, lastOf, dueLong}

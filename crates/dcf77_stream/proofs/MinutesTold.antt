@@ -3,19 +3,22 @@
 use mathlib.Core.Bool.{Bool, true, false, cond, _&&_}
 use mathlib.Core.List.{List, [], _∷_, _++_, append-assoc}
 use mathlib.Core.Path.{_≡_, refl, sym, ap, _∙_}
-use Prim.Native.Nat.{ℕ, suc, _+_, _-_, _≤_, _<_}
+use Prim.Native.Nat.{ℕ, suc, _-_, _≤_, _<_}
 use native.Mathlib.Omega.{arith}
-use lib.Dec.{leb, eqb, ltb}
+use lib.Dec.{leb, eqb}
 use lib.ListN.{length, getD, take, drop, length-append}
 use lib.Seq.{drop-append-seam, length-take-le, getD-take}
 use borrow.Author.Tests.{le-leb, leb-true, lt-ltb, ne-eqb}
 use Rattle.reading.specs.declared.Reading.{Reading}
 use Rattle.reading.specs.declared.Verdict.the-variants.{Good}
+use Rattle.reading.specs.declared.Written.the-variants.{Length}
+use Rattle.reading.specs.Writing.{writtenOf, filled}
+use Rattle.dcf77.specs.declared.Answer.the-variants.{Time as Told}
 use Rattle.dcf77.specs.Forms.{lengthOf, lastOf as lastPlace, dueLong}
 use Rattle.dcf77.specs.Reader.{readDcf77}
-use Rattle.dcf77.specs.Writer.{bytesOf, carryFault}
+use Rattle.dcf77.specs.Writer.{bytesOf, carryFault, writeFault}
 use Rattle.dcf77.proofs.WriteLaws.{length-bytes}
-use Rattle.dcf77.proofs.RoundTrip.{bytes-read}
+use Rattle.dcf77.proofs.RoundTrip.{bytes-read, read-bytes, written-reads}
 use Rattle.dcf77.proofs.ShapeLaws.{last-place, marks-small, gap-at-end}
 use Rattle.streams.specs.Stream.{lastOf}
 use Rattle.streams.proofs.Window.{last-after}
@@ -106,3 +109,17 @@ module _ (base : ℕ) (r : Reading) (head : ℕ) (good : carryFault base r head 
       ap (λ (s : List ℕ). owed base (before ++ s)) join
       ∙ ap (owed base) (sym (append-assoc before marks minute))
       ∙ minute-told (before ++ marks)
+
+-- ---- the same of the marks themselves
+
+-- what whole-minute reading accepts is told after a gap, whatever came before that gap
+pub accepted-told : (base : ℕ) (s : List ℕ) (r : Reading) (head : ℕ) → readDcf77 base s ≡ Told r head → (before : List ℕ) → owed base (before ++ (2 ∷ s)) ≡ Time r head
+accepted-told base s r head e before =
+    let p = read-bytes base s r head e in
+    ap (λ (b : List ℕ). owed base (before ++ (2 ∷ b))) (sym (p .1)) ∙ minute-told base r head (p .0) before
+
+-- and so is what the writer wrote, into any buffer
+pub written-told : (base : ℕ) (r : Reading) (head : ℕ) (out : List ℕ) (n : ℕ) → writtenOf (writeFault base r head (length out)) (lengthOf (dueLong r)) ≡ Length n
+    → (before : List ℕ) → owed base (before ++ (2 ∷ take n (filled (writeFault base r head (length out)) (bytesOf r head) out))) ≡ Time r head
+written-told base r head out n e before =
+    accepted-told base (take n (filled (writeFault base r head (length out)) (bytesOf r head) out)) r head (written-reads base r head out n e) before

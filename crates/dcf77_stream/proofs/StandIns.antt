@@ -1,7 +1,7 @@
 -- Stand-ins for a pulse reader that "have to break" the contract: an answer to all the symbols that came, which is after every
 -- symbol what is owed, is none of them.
 use mathlib.Core.List.{List, [], _∷_, _++_}
-use mathlib.Core.Path.{_≡_, refl, sym, ap, _∙_}
+use mathlib.Core.Path.{_≡_, refl, ap, _∙_}
 use Prim.Native.Nat.{ℕ, _<_}
 use native.Mathlib.Omega.{arith}
 use lib.ListN.{length, take, replicate}

@@ -1,44 +1,34 @@
 -- Every frame of a reading that passes the checks is told after its last pulse, whatever pulses came before it, and also where
 -- it shares its opening mark with the frame before it; 01's case 11.
-use mathlib.Core.Bool.{true, cond}
+use mathlib.Core.Bool.{true}
 use mathlib.Core.List.{List, [], _∷_, _++_, append-assoc}
 use mathlib.Core.Path.{_≡_, refl, sym, ap, _∙_}
-use Prim.Native.Nat.{ℕ, zero, suc, _%_, _≤_}
+use Prim.Native.Nat.{ℕ, _≤_}
 use native.Mathlib.Omega.{arith}
-use lib.Dec.{leb, eqb, ltb}
 use lib.ListN.{length, getD, take, drop, length-append, drop-of-length-le}
 use lib.Seq.{split-at}
-use borrow.Author.Tests.{le-leb, lt-ltb, ne-eqb}
+use borrow.Author.Tests.{le-leb}
 use Rattle.reading.specs.declared.Reading.{Reading}
 use Rattle.reading.specs.declared.Verdict.the-variants.{Good}
+use Rattle.reading.specs.declared.Written.the-variants.{Length}
+use Rattle.reading.specs.Writing.{writtenOf, filled}
 use Rattle.reading.specs.Checks.{checkedOf}
-use Rattle.pulses.specs.Row.{groupOf, weightOf, byGroup, pulseOf, pulseFor, row}
-use Rattle.pulses.specs.Outline.{inOutline, outlineOf}
+use Rattle.pulses.specs.Row.{groupOf, pulseOf, pulseFor, row}
+use Rattle.pulses.specs.Outline.{outlineOf}
+use Rattle.pulses.proofs.OutlineLaws.{row-outline}
 use Rattle.pulses.proofs.RowLaws.{pulse-at}
 use Rattle.irig_table.specs.Table.{framePulses}
 use Rattle.irig_table.proofs.TableLaws.{frame-length}
-use Rattle.irig.specs.Faults.{frameLength}
-use Rattle.irig.specs.Writing.{valuesOf, parityOf, frameOf}
+use Rattle.irig.specs.declared.Answer.the-variants.{Time as Told}
+use Rattle.irig.specs.Faults.{frameLength, readFrame}
+use Rattle.irig.specs.Writing.{valuesOf, parityOf, frameOf, writeFault}
 use Rattle.irig.proofs.WriteLaws.{length-frame}
-use Rattle.irig.proofs.RoundTrip.{exactly}
+use Rattle.irig.proofs.RoundTrip.{exactly, written-reads}
 use Rattle.streams.proofs.Window.{last-after}
 use Rattle.irig_stream.specs.declared.Said.the-variants.{Time}
 use Rattle.irig_stream.specs.Said.{kept, sayOf, owed}
 
 -- ---- a frame has the outline, and a mark at both ends
-
-in-outline : (g x : ℕ) → cond (eqb g 1) (eqb (byGroup g 0 2 1 (x % 2)) 2) (ltb (byGroup g 0 2 1 (x % 2)) 2) ≡ true
-in-outline zero x = refl
-in-outline (suc zero) x = refl
-in-outline (suc (suc zero)) x = refl
-in-outline (suc (suc (suc g))) x =
-    let no-mark : suc (suc (suc g)) ≡ 1 → ⊥ = λ e. omega arith in
-    rw (ne-eqb (suc (suc (suc g))) 1 no-mark) (lt-ltb (x % 2) 2 (omega arith))
-
-row-outline : (t v : List ℕ) → outlineOf t (row t v) ≡ true
-unfolding outlineOf row pulseFor pulseOf inOutline
-row-outline [] v = refl
-row-outline (e ∷ t) v = rw (in-outline (groupOf e)) (row-outline t v)
 
 frame-outline : (r : Reading) → outlineOf framePulses (frameOf r) ≡ true
 unfolding frameOf
@@ -82,3 +72,17 @@ module _ (base : ℕ) (r : Reading) (good : checkedOf base r ≡ Good) where
       ap (λ (f : List ℕ). owed base (before ++ f)) join
       ∙ ap (owed base) (sym (append-assoc before (take 99 (frameOf q)) (frameOf r)))
       ∙ frame-told (before ++ take 99 (frameOf q))
+
+-- ---- the same of the pulses themselves
+
+-- what whole-frame reading accepts is told, whatever came before it
+pub accepted-told : (base : ℕ) (s : List ℕ) (r : Reading) → readFrame base s ≡ Told r → (before : List ℕ) → owed base (before ++ s) ≡ Time r
+accepted-told base s r e before =
+    let p = exactly base s r .0 e in
+    rw (p .1) (frame-told base r (p .0) before)
+
+-- and so is what the writer wrote, into any buffer
+pub written-told : (base : ℕ) (r : Reading) (buffer : List ℕ) (n : ℕ) → writtenOf (writeFault base r (length buffer)) frameLength ≡ Length n
+    → (before : List ℕ) → owed base (before ++ take n (filled (writeFault base r (length buffer)) (frameOf r) buffer)) ≡ Time r
+written-told base r buffer n e before =
+    accepted-told base (take n (filled (writeFault base r (length buffer)) (frameOf r) buffer)) r (written-reads base r buffer n e) before

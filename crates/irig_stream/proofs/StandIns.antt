@@ -1,13 +1,12 @@
 -- Stand-ins for a pulse reader that "have to break" the contract: an answer to all the pulses that came, which is after every
 -- pulse what is owed, is none of them.
 use mathlib.Core.List.{List, [], _∷_, _++_}
-use mathlib.Core.Path.{_≡_, refl, sym, ap, _∙_}
+use mathlib.Core.Path.{_≡_, refl, ap, _∙_}
 use Prim.Native.Nat.{ℕ, _<_}
 use native.Mathlib.Omega.{arith}
 use lib.IntN.{pos, natAbs}
 use lib.ListN.{length, take, drop, replicate, length-drop}
 use Rattle.reading.specs.declared.Reading.{Reading}
-use Rattle.reading.specs.declared.Refusal.{Refusal}
 use Rattle.reading.specs.declared.Verdict.the-variants.{Good}
 use Rattle.reading.specs.Years.{base}
 use Rattle.reading.specs.Offset.{west, east, offsetGood}
@@ -16,7 +15,7 @@ use Rattle.irig.specs.Writing.{frameOf}
 use Rattle.irig.proofs.Worked.{atOffset, at-offset-checked}
 use Rattle.irig.proofs.WriteLaws.{length-frame}
 use Rattle.irig_stream.specs.declared.Said.{Said}
-use Rattle.irig_stream.specs.declared.Said.the-variants.{Time, No, Nothing}
+use Rattle.irig_stream.specs.declared.Said.the-variants.{Time, Nothing}
 use Rattle.irig_stream.specs.Said.{kept, owed}
 use Rattle.irig_stream.proofs.FramesTold.{closes-with-mark, frame-told, mark-shared}
 
