@@ -6,6 +6,7 @@ use super::offset::offset_of;
 use reading::Fault;
 use reading::Reading;
 use reading::Verdict;
+use reading::faults::refusal_of;
 use reading::years::year_of;
 use strings::Answer;
 use strings::Places;
@@ -17,7 +18,8 @@ ghost use mathlib.Core.Path.{_≡_};
 ghost use mathlib.Core.Bool.{cond};
 ghost use Prim.Native.Nat.{_+_};
 ghost use Rattle.reading.specs.Years.{base};
-ghost use Rattle.erlangen.specs.Meaning.{shows, weekdaySaid, coastingSaid, offsetWrong, markWrong, readingOf, faultIn, readErlangen, positionOf, startFor};
+ghost use Rattle.strings.specs.Checks.{faultOf};
+ghost use Rattle.erlangen.specs.Meaning.{places, shows, weekdaySaid, coastingSaid, offsetWrong, markWrong, readingOf, faultIn, readErlangen, positionOf, startFor};
 
 const PLACES: Places = Places {
     day: 1,
@@ -91,30 +93,26 @@ fn reading_of(s: &[u8]) -> Reading
     }
 }
 
-fn fault_in(s: &[u8]) -> Verdict
-    ensures { λ v. ⌜ v ≡ faultIn base (now (s .entry)) ⌝ }
+fn said_fault(s: &[u8], r: Reading) -> Verdict
+    ensures { λ v. ⌜ v ≡ faultOf r (weekdaySaid (now (s .entry))) (offsetWrong (now (s .entry))) (markWrong (now (s .entry))) places ⌝ }
 {
-    if s.len() != Erlangen::LENGTH {
-        return Verdict::Bad(Fault::Length);
-    }
-    let good = good_places(s);
-    if good < Erlangen::LENGTH {
-        return Verdict::Bad(Fault::Byte(good));
-    }
-    fault_of(
-        reading_of(s),
-        weekday_said(s),
-        offset_wrong(s),
-        mark_wrong(s),
-        PLACES,
-    )
+    fault_of(r, weekday_said(s), offset_wrong(s), mark_wrong(s), PLACES)
 }
 
 impl Erlangen {
+    // The form comes first, so that a string of another form costs no more than finding that out.
     pub fn read(s: &[u8]) -> Answer
         ensures { λ a. ⌜ a ≡ readErlangen base (now (s .entry)) ⌝ }
     {
-        told(fault_in(s), reading_of(s), coasting_said(s))
+        if s.len() != Erlangen::LENGTH {
+            return Answer::No(refusal_of(Fault::Length));
+        }
+        let good = good_places(s);
+        if good < Erlangen::LENGTH {
+            return Answer::No(refusal_of(Fault::Byte(good)));
+        }
+        let r = reading_of(s);
+        told(said_fault(s, r), r, coasting_said(s))
     }
 
     // The position bytes as a part of the caller's own string; the empty part where the string is refused.
@@ -122,9 +120,9 @@ impl Erlangen {
         ensures { λ r. ⌜ now r ≡ positionOf base (now (s .entry)) ⌝ }
         ensures { λ r. ⌜ r .ptr ≡ (s .entry .ptr .0, startFor (faultIn base (now (s .entry))) + s .entry .ptr .1) ⌝ }
     {
-        match fault_in(s) {
-            Verdict::Good => &s[41..Erlangen::LAST],
-            Verdict::Bad(_) => &s[0..0],
+        match Erlangen::read(s) {
+            Answer::Time(_, _) => &s[41..Erlangen::LAST],
+            Answer::No(_) => &s[0..0],
         }
     }
 }
