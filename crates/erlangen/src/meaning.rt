@@ -14,6 +14,7 @@ use strings::fault_of;
 use strings::told;
 use wire::digits::one_digit;
 use wire::digits::two_digits;
+use wire::layout::byte_at;
 ghost use mathlib.Core.Path.{_≡_};
 ghost use mathlib.Core.Bool.{cond};
 ghost use Prim.Native.Nat.{_+_};
@@ -31,14 +32,10 @@ const PLACES: Places = Places {
     offset: 24,
 };
 
-// Past the end stands no byte that is asked for, but the definition has a 0 there.
 fn shows(s: &[u8], place: usize, byte: u8) -> bool
     ensures { λ r. ⌜ r ≡ shows (now (s .entry)) place byte ⌝ }
 {
-    if place < s.len() {
-        return s[place] == byte;
-    }
-    0 == byte
+    byte_at(s, place) == byte
 }
 
 fn weekday_said(s: &[u8]) -> u8

@@ -14,20 +14,10 @@ use strings::fault_of;
 use strings::told;
 use wire::digits::one_digit;
 use wire::digits::two_digits;
+use wire::layout::byte_at;
 ghost use mathlib.Core.Path.{_≡_};
-ghost use lib.ListN.{getD};
 ghost use Rattle.reading.specs.Years.{base};
 ghost use Rattle.meinberg.specs.Meaning.{qualityOf, coastingIn, meaning, readMeinberg};
-
-// Past the end it is 0, which no layout allows.
-fn byte_at(s: &[u8], at: usize) -> u8
-    ensures { λ r. ⌜ r ≡ getD (now (s .entry)) at 0 ⌝ }
-{
-    if at < s.len() {
-        return s[at];
-    }
-    0
-}
 
 fn quality_of(failure: u8) -> u8
     ensures { λ r. ⌜ r ≡ qualityOf failure ⌝ }
