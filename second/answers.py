@@ -12,7 +12,7 @@ import ieee1344
 import meinberg
 import published
 import pulse_readers
-from book import listing_lines
+from book import listing_text
 from reading import Reading, Refusal, Told, stamp
 
 FILLING = 0xA5
@@ -137,7 +137,7 @@ LINES = {
     10: bridge_line,
     11: lambda payload: said_line(pulse_readers.FrameReader(), payload),
     12: lambda payload: said_line(pulse_readers.MinuteReader(), payload),
-    13: lambda payload: " | ".join(listing_lines(payload)),
+    13: lambda payload: listing_text(payload).replace("\n", "|"),
     14: lambda payload: published.table_line(),
     20: lambda payload: changes_line(meinberg.read, payload),
     21: lambda payload: changes_line(erlangen.read, payload),

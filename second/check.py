@@ -165,7 +165,7 @@ def check_round_trip(check: Checks, op: int, payload: bytes, line: str) -> None:
 def codes_in(op: int, line: str) -> Iterator[int]:
     """The refusal codes of an answer line."""
     if op == 13:
-        for record in line.split(" | "):
+        for record in line.split("|"):
             words = record.split()
             if len(words) == 5 and words[2] == "no":
                 yield int(words[3])

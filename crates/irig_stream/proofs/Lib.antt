@@ -1,2 +1,5 @@
 pub mod StreamLaws
+pub mod FramesTold
+pub mod StandIns
+pub mod Worked
 pub mod Unique

@@ -1,5 +1,5 @@
 -- The outline, place by place, and what a row in outline is.
-use mathlib.Core.Bool.{Bool, true, false, _&&_}
+use mathlib.Core.Bool.{Bool, true, false, cond, _&&_}
 use mathlib.Core.List.{List, [], _∷_}
 use mathlib.Core.Path.{_≡_, refl, sym, ap, _∙_}
 use Prim.Native.Nat.{ℕ, zero, suc, _+_, _≤_, _<_}
@@ -8,10 +8,11 @@ use native.Mathlib.Omega.{arith}
 use lib.Dec.{eqb, ltb}
 use lib.ListN.{length, getD, drop, drop-of-length-le}
 use lib.Seq.{drop-cons}
-use borrow.Author.Tests.{eq-eqb, eqb-true}
+use borrow.Author.Tests.{eq-eqb, eqb-true, ne-eqb, lt-ltb, le-ltb}
 use Rattle.laws.proofs.Bools.{both, never}
-use Rattle.pulses.specs.Row.{marks, groupOf}
+use Rattle.pulses.specs.Row.{marks, firstData, groupOf, weightOf, digitOf, pulseOf, pulseFor, row}
 use Rattle.pulses.specs.Outline.{inOutline, outlineOf}
+use Rattle.pulses.proofs.EntryLaws.{digit-small}
 
 -- the outline at place i
 abbrev pub outlineAt : List ℕ → List ℕ → ℕ → Bool
@@ -59,3 +60,21 @@ outline-each (x ∷ t) (b ∷ s) e (suc i) h = outline-each t s (both (inOutline
 pub outline-mark : (e b : ℕ) → groupOf e ≡ marks → inOutline e b ≡ true → b ≡ 2
 unfolding inOutline
 outline-mark e b g h = eqb-true b 2 (rw (eq-eqb (groupOf e) marks g) at h)
+
+-- ---- what a table lays out
+
+in-outline : (g d : ℕ) → d < 2 → (let y : ℕ = cond (ltb g firstData) g d in cond (eqb g marks) (eqb y 2) (ltb y 2)) ≡ true
+in-outline zero d h = refl
+in-outline (suc zero) d h = refl
+in-outline (suc (suc zero)) d h = refl
+in-outline (suc (suc (suc g))) d h =
+    let no-mark : suc (suc (suc g)) ≡ marks → ⊥ = λ e. omega arith in
+    rw (ne-eqb (suc (suc (suc g))) marks no-mark, le-ltb (suc (suc (suc g))) firstData (omega arith)) (lt-ltb d 2 h)
+
+-- the row that a table lays out of values has the table's outline, whatever the values are
+pub row-outline : (t v : List ℕ) → outlineOf t (row t v) ≡ true
+unfolding outlineOf row pulseFor pulseOf inOutline
+row-outline [] v = refl
+row-outline (e ∷ t) v =
+    let d = digitOf (getD v (groupOf e) 0) (weightOf e) in
+    rw (in-outline (groupOf e) d (digit-small (getD v (groupOf e) 0) (weightOf e))) (row-outline t v)

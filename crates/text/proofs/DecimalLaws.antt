@@ -9,7 +9,8 @@ use lib.Dec.{ltb}
 use lib.ListN.{length, drop, set, getD, length-set}
 use lib.Seq.{drop-cons, getD-set-same, drop-set-lt}
 use borrow.Author.Tests.{lt-ltb, le-ltb, ltb-true, ltb-false}
-use Rattle.text.specs.Decimal.{digitsBefore, decimal}
+use Rattle.wire.specs.Put.{fits}
+use Rattle.text.specs.Decimal.{digitsBefore, decimal, storedLength}
 
 -- ---- the loop
 
@@ -93,3 +94,29 @@ value-before (suc k) n rest one h = go (value-before k (n / 10) ((48 + n % 10) �
 pub decimal-value : (n : ℕ) → n < 10 ^ 20 → valueAfter 0 (decimal n) ≡ n
 unfolding decimal valueAfter
 decimal-value n h = value-before 20 n [] (omega arith) h
+
+-- ---- how many are stored
+
+pub stored-all : (at : ℕ) (t l : List ℕ) → fits at t l ≡ true → storedLength at t l ≡ length t
+unfolding storedLength
+stored-all at t l e = rw e
+
+pub stored-none : (at : ℕ) (t l : List ℕ) → fits at t l ≡ false → storedLength at t l ≡ 0
+unfolding storedLength
+stored-none at t l e = rw e
+
+-- ---- and how many there are
+
+before-length : (k n : ℕ) (rest : List ℕ) → length (digitsBefore k n rest) ≤ k + length rest
+unfolding digitsBefore
+before-length zero n rest = omega arith
+before-length (suc k) n rest = go (ltb n 10) (before-length k (n / 10) ((48 + n % 10) ∷ rest))
+  where
+    go : (b : Bool) → length (digitsBefore k (n / 10) ((48 + n % 10) ∷ rest)) ≤ k + suc (length rest)
+        → length (cond b ((48 + n) ∷ rest) (digitsBefore k (n / 10) ((48 + n % 10) ∷ rest))) ≤ suc k + length rest
+    go true h = omega arith
+    go false h = omega arith
+
+pub decimal-length : (n : ℕ) → length (decimal n) ≤ 20
+unfolding decimal
+decimal-length n = before-length 20 n []

@@ -4,8 +4,8 @@ ghost use mathlib.Core.Path.{_≡_};
 ghost use mathlib.Core.List.{[]};
 ghost use Prim.Native.Nat.{_≤_};
 ghost use lib.ListN.{length, drop};
-ghost use Rattle.wire.specs.Put.{fits, stored};
-ghost use Rattle.text.specs.Decimal.{digitsBefore, decimal};
+ghost use Rattle.wire.specs.Put.{stored};
+ghost use Rattle.text.specs.Decimal.{decimal, storedLength};
 
 // The digits of a number, from place `from` of `bytes` on.
 struct Digits {
@@ -30,13 +30,16 @@ fn digits_of(number: u64) -> Digits
     Digits { bytes, from }
 }
 
-// Stores the decimal digits of a number from place `at` on where they fit wholly, else nothing; says whether it did.
-pub fn put_decimal(out: &mut [u8], at: usize, number: u64) -> bool
-    ensures { λ r. ⌜ r ≡ fits at (decimal number) (now (out .entry)) ⌝ }
+// Stores the decimal digits of a number from place `at` on where they fit wholly, else nothing; says how many it stored.
+pub fn put_decimal(out: &mut [u8], at: usize, number: u64) -> usize
+    ensures { λ r. ⌜ r ≡ storedLength at (decimal number) (now (out .entry)) ⌝ }
     ensures { λ r. ⌜ now (out .exit) ≡ stored at (decimal number) (now (out .entry)) ⌝ }
 {
     let d = digits_of(number);
     let bytes = d.bytes;
     let from = d.from;
-    put_at(out, at, &bytes[from..])
+    if put_at(out, at, &bytes[from..]) {
+        return 20 - from;
+    }
+    0
 }

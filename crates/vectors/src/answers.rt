@@ -3,6 +3,7 @@ use super::changes::every_change;
 use super::fed::fed_frames;
 use super::fed::fed_minutes;
 use super::line::put;
+use super::listed::listed;
 use super::readers::read_by;
 use super::stamped::stamped;
 use super::table::tabled;
@@ -20,6 +21,7 @@ pub fn answer(out: &mut [u8], op: u8, payload: &[u8]) -> usize
         10 => bridged(out, payload),
         11 => fed_frames(out, payload),
         12 => fed_minutes(out, payload),
+        13 => listed(out, payload),
         14 => tabled(out),
         20..=23 => every_change(out, op - 19, payload),
         _ => put(out, 0, b"bad"),

@@ -1,36 +1,13 @@
 // What the pulse readers say of a stream: where they say something, the count of pulses and the answer's words.
 use super::line::put;
 use super::line::put_number;
+use super::line::swapped;
 use super::readers::put_field;
 use super::readers::put_time;
 use super::stamped::refused;
 use reading::Reading;
 use reading::Refusal;
 ghost use Rattle.vectors.specs.Line.{Kept};
-
-// A blank becomes a comma.
-fn joined(out: &mut [u8], at: usize) -> usize
-    ensures { λ r. ⌜ Kept r (now (out .entry)) (now (out .exit)) ⌝ }
-{
-    if at < out.len() {
-        if out[at] == b' ' {
-            return put(out, at, b",");
-        }
-    }
-    put(out, at, b"")
-}
-
-// The words from `from` to `to` are joined by commas.
-fn with_commas(out: &mut [u8], from: usize, to: usize) -> usize
-    ensures { λ r. ⌜ Kept r (now (out .entry)) (now (out .exit)) ⌝ }
-{
-    let mut i = from;
-    while i < to {
-        joined(out, i);
-        i += 1;
-    }
-    put(out, to, b"")
-}
 
 fn put_count(out: &mut [u8], at: usize, count: usize) -> usize
     ensures { λ r. ⌜ Kept r (now (out .entry)) (now (out .exit)) ⌝ }
@@ -45,7 +22,7 @@ fn put_refused(out: &mut [u8], at: usize, count: usize, refusal: Refusal) -> usi
 {
     let a = put_count(out, at, count);
     let b = refused(out, a, refusal);
-    with_commas(out, a, b)
+    swapped(out, a, b, b' ', b',')
 }
 
 fn put_frame(out: &mut [u8], at: usize, count: usize, r: Reading) -> usize
@@ -53,7 +30,7 @@ fn put_frame(out: &mut [u8], at: usize, count: usize, r: Reading) -> usize
 {
     let a = put_count(out, at, count);
     let b = put_time(out, a, r);
-    with_commas(out, a, b)
+    swapped(out, a, b, b' ', b',')
 }
 
 fn put_minute(out: &mut [u8], at: usize, count: usize, r: Reading, head: u16) -> usize
@@ -62,7 +39,7 @@ fn put_minute(out: &mut [u8], at: usize, count: usize, r: Reading, head: u16) ->
     let a = put_count(out, at, count);
     let b = put_time(out, a, r);
     let c = put_field(out, b, head as u64);
-    with_commas(out, a, c)
+    swapped(out, a, c, b' ', b',')
 }
 
 fn frame_said(out: &mut [u8], at: usize, count: usize, said: irig_stream::Said) -> usize

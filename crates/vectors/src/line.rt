@@ -71,3 +71,28 @@ pub fn spill(out: &mut [u8], at: usize) -> usize
     io::write_all(1, &out[..end]);
     put(out, 0, b"")
 }
+
+// The byte at a place becomes another where it is the old one.
+fn swapped_at(out: &mut [u8], at: usize, old: u8, new: u8) -> usize
+    ensures { λ r. ⌜ Kept r (now (out .entry)) (now (out .exit)) ⌝ }
+{
+    if at < out.len() {
+        if out[at] == old {
+            let word = [new];
+            return put(out, at, &word);
+        }
+    }
+    put(out, at, b"")
+}
+
+// Each old byte from `from` to `to` becomes the new one; the line ends at `to`.
+pub fn swapped(out: &mut [u8], from: usize, to: usize, old: u8, new: u8) -> usize
+    ensures { λ r. ⌜ Kept r (now (out .entry)) (now (out .exit)) ⌝ }
+{
+    let mut i = from;
+    while i < to {
+        swapped_at(out, i, old, new);
+        i += 1;
+    }
+    put(out, to, b"")
+}

@@ -1,10 +1,14 @@
 // Answers the cases that stand on standard input, a line each, with the proved functions. second/README.md says what a
 // case is; what this prints is compared with what the independent second program answers.
+ghost use mathlib.Core.Path.{_≡_};
+ghost use lib.ListN.{length};
+
 mod answers;
 mod changes;
 mod fed;
 mod fields;
 mod line;
+mod listed;
 mod readers;
 mod stamped;
 mod table;
@@ -33,10 +37,17 @@ fn one_case(space: &mut [u8], page: &mut [u8]) -> bool {
     io::write_all(1, &page[..end]) & io::write_all(1, b"\n")
 }
 
+// A line has room for every listing.
+fn page_for_listing() -> [u8; 262144]
+    ensures { λ r. ⌜ 262144 ≡ length r ⌝ }
+{
+    [0; 262144]
+}
+
 // A proved loop has to end, so it counts down from a number that no run uses up.
 fn main() {
     let mut space = io::large_buffer();
-    let mut page = io::large_buffer();
+    let mut page = page_for_listing();
     let input: &mut [u8] = &mut space;
     let output: &mut [u8] = &mut page;
     let mut turns = u64::MAX;

@@ -13,8 +13,8 @@ abbrev μ-loop : tie.MeasureT-loop
 large-buffer-requires : tie.Need-large-buffer-requires Inv-loop μ-loop
 large-buffer-requires c κs = tt
 
-large-buffer-requires-2 : tie.Need-large-buffer-requires-2 Inv-loop μ-loop
-large-buffer-requires-2 c κs = tt
+page-for-listing-requires : tie.Need-page-for-listing-requires Inv-loop μ-loop
+page-for-listing-requires c κs = tt
 
 slice-aggregate-input : tie.Need-slice-aggregate-input Inv-loop μ-loop
 slice-aggregate-input c = search needs
@@ -50,7 +50,7 @@ main-spec =
     Inv-loop
     μ-loop
     large-buffer-requires
-    large-buffer-requires-2
+    page-for-listing-requires
     slice-aggregate-input
     slice-aggregate-output
     loop-holds

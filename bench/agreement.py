@@ -1,0 +1,85 @@
+"""Before anything is counted: the proved functions, the C baseline and the second program have to give the same answers, on
+every record that is counted and on damaged ones."""
+import subprocess
+import sys
+
+import kit
+import records
+import rows
+from book import listing_text
+from case_parts import bridge_case, case
+
+STEP = 7
+PULSES = (0, 1, 2, 255)
+BRIDGE_CASE = 10
+
+
+def damaged(good, step=STEP):
+    """Every step-th one-byte change."""
+    for change in range(0, 256 * len(good), step):
+        place, byte = divmod(change, 256)
+        yield good[:place] + bytes((byte,)) + good[place + 1 :]
+
+
+def damaged_streams(stream):
+    """Every pulse replaced by each of a few others."""
+    for place in range(len(stream)):
+        for pulse in PULSES:
+            yield stream[:place] + bytes((pulse,)) + stream[place + 1 :]
+
+
+def case_of(op, record):
+    """A record as the second program's case."""
+    if op >= rows.BRIDGE:
+        return bridge_case(op - rows.BRIDGE + 1, records.ROOM, record)
+    return case(op, record)
+
+
+def cases_of_records(length):
+    for row in rows.record_rows():
+        made = [row.record(number) for number in range(length)]
+        yield row.name, [case_of(row.op, record) for record in made] + [case_of(row.op, other) for other in damaged(made[1])]
+
+
+def cases_of_pulses():
+    for name, op, stream in (("pulses IEEE 1344", rows.FRAME_PULSES, records.frames(3)),
+                             ("pulses DCF77", rows.MINUTE_PULSES, records.minutes(4))):
+        long = stream + stream[-150:] + bytes(61)
+        yield name, [case(op, long)] + [case(op, other) for other in damaged_streams(stream)]
+
+
+def second_answers(given):
+    words = [sys.executable, kit.ROOT / "second" / "answers.py"]
+    return subprocess.run(words, input=given, stdout=subprocess.PIPE, check=True).stdout
+
+
+def first_difference(cases, answers):
+    for number, one in enumerate(cases):
+        said = [lines[number : number + 1] for lines in answers]
+        if said[0] != said[1] or said[1] != said[2]:
+            return f"case {one.hex()}\n  proved {said[0]}\n  C      {said[1]}\n  second {said[2]}"
+    return "the numbers of lines differ"
+
+
+def compare(ours, plain, length):
+    """Stops where two of the three differ; else the number of cases."""
+    total = 0
+    for name, cases in [*cases_of_records(length), *cases_of_pulses()]:
+        given = b"".join(cases)
+        outputs = (kit.output_of(ours, given), kit.output_of(plain, given), second_answers(given))
+        answers = [output.split(b"\n") for output in outputs]
+        if outputs[0] != outputs[1] or outputs[1] != outputs[2] or len(answers[0]) != len(cases) + 1:
+            raise SystemExit(f"bench: {name}: {first_difference(cases, answers)}")
+        total += len(cases)
+    return total
+
+
+def compare_listings(programs, length):
+    """The same for the listing program: a book, books cut short, and some changes of a small one."""
+    whole, small = records.book(length), records.book(10)
+    books = [b"", whole, whole + bytes(65537), *(whole[:end] for end in range(0, len(whole), 997)), *damaged(small, 1009)]
+    for one in books:
+        wrote = [kit.output_of(program, one) for program in programs] + [listing_text(one).encode()]
+        if any(text != wrote[0] for text in wrote):
+            raise SystemExit(f"bench: listings differ on the book {one[:200].hex()}.. of {len(one)} bytes")
+    return len(books)

@@ -1,0 +1,181 @@
+/* The program crates/vectors over the C baseline: answers the cases that stand on standard input, a line each, in the words
+   that second/README.md gives. */
+#include "cases.h"
+#include "formats.h"
+
+enum { LARGEST = 65536, LENT = 256 };
+
+static uint8_t line[2 * LARGEST];
+static size_t end;
+
+static void put(const char *text)
+{
+    while (*text)
+        line[end++] = (uint8_t)*text++;
+}
+
+static void put_number(unsigned number)
+{
+    if (number >= 10)
+        put_number(number / 10);
+    line[end++] = (uint8_t)('0' + number % 10);
+}
+
+static void put_hex(const uint8_t *bytes, size_t count)
+{
+    if (count == 0)
+        put("-");
+    for (size_t i = 0; i < count; i++) {
+        line[end++] = (uint8_t)"0123456789abcdef"[bytes[i] >> 4];
+        line[end++] = (uint8_t)"0123456789abcdef"[bytes[i] & 15];
+    }
+}
+
+static void put_field(char between, unsigned number)
+{
+    line[end++] = (uint8_t)between;
+    put_number(number);
+}
+
+static void put_refusal(char between, struct answer a)
+{
+    put("no");
+    put_field(between, a.code);
+    put_field(between, (unsigned)a.value);
+}
+
+static void put_time(char between, const struct reading *r)
+{
+    const unsigned before[] = {r->year, r->month, r->day, r->hour, r->minute, r->second};
+    const unsigned after[] = {r->summer, r->leap, r->change, r->quality};
+    put("time");
+    for (size_t i = 0; i < 6; i++)
+        put_field(between, before[i]);
+    line[end++] = (uint8_t)between;
+    if (r->offset < 0)
+        put("-");
+    put_number((unsigned)(r->offset < 0 ? -r->offset : r->offset));
+    for (size_t i = 0; i < 4; i++)
+        put_field(between, after[i]);
+}
+
+static void put_read(uint8_t op, const uint8_t *s, size_t length)
+{
+    struct reading r;
+    bool coasting;
+    uint16_t head;
+    struct answer a = op == 1 ? meinberg_read(s, length, &r, &coasting) : op == 2 ? erlangen_read(s, length, &r, &coasting)
+        : op == 3 ? frame_read(s, length, &r) : minute_read(s, length, &r, &head);
+    if (a.code)
+        put_refusal(' ', a);
+    else
+        put_time(' ', &r);
+    if (!a.code && op != 3)
+        put_field(' ', op == 4 ? head : coasting);
+    if (op == 2) {
+        put(" part ");
+        put_hex(s + POSITION_START, a.code ? 0 : POSITION_LENGTH);
+    }
+}
+
+static void put_written(struct answer a, const uint8_t *lent, size_t room)
+{
+    if (a.code)
+        put_refusal(' ', a);
+    else {
+        put("wrote");
+        put_field(' ', (unsigned)a.value);
+    }
+    put(" ");
+    put_hex(lent, room);
+}
+
+static void put_write(uint8_t op, const uint8_t *p, size_t length)
+{
+    uint8_t lent[LENT];
+    struct reading r = reading_in(p);
+    uint16_t beside = beside_in(p);
+    size_t room = p[14];
+    memset(lent, 0xA5, sizeof lent);
+    struct answer a = op == 5 ? meinberg_write(&r, beside != 0, lent, room)
+        : op == 6 ? erlangen_write(&r, beside != 0, p + WRITER_LENGTH, length - WRITER_LENGTH, lent, room)
+        : op == 7 ? frame_write(&r, lent, room) : minute_write(&r, beside, lent, room);
+    put_written(a, lent, room);
+}
+
+static void put_bridged(const uint8_t *p, size_t length)
+{
+    uint8_t lent[LENT];
+    memset(lent, 0xA5, sizeof lent);
+    put_written(bridge(p[0] == 1 ? MEINBERG : ERLANGEN, p + 2, length - 2, lent, p[1]), lent, p[1]);
+}
+
+static void put_said(size_t at, struct answer a, const struct reading *r)
+{
+    put_field(' ', (unsigned)at);
+    put(":");
+    if (a.code)
+        put_refusal(',', a);
+    else
+        put_time(',', r);
+}
+
+static void put_frames(const uint8_t *pulses, size_t count)
+{
+    struct frame_reader f;
+    struct answer a;
+    struct reading r;
+    put("said");
+    frame_reader_start(&f);
+    for (size_t i = 0; i < count; i++)
+        if (frame_reader_take(&f, pulses[i], &a, &r))
+            put_said(i + 1, a, &r);
+}
+
+static void put_minutes(const uint8_t *symbols, size_t count)
+{
+    struct minute_reader m;
+    struct answer a;
+    struct reading r;
+    uint16_t head;
+    put("said");
+    minute_reader_start(&m);
+    for (size_t i = 0; i < count; i++)
+        if (minute_reader_take(&m, symbols[i], &a, &r, &head)) {
+            put_said(i + 1, a, &r);
+            if (!a.code)
+                put_field(',', head);
+        }
+}
+
+static void put_answer(uint8_t op, const uint8_t *payload, size_t length)
+{
+    if (op >= 1 && op <= 4)
+        put_read(op, payload, length);
+    else if (op >= 5 && op <= 8 && length >= WRITER_LENGTH)
+        put_write(op, payload, length);
+    else if (op == 10 && length >= 2 && payload[0] >= 1 && payload[0] <= 2)
+        put_bridged(payload, length);
+    else if (op == 11)
+        put_frames(payload, length);
+    else if (op == 12)
+        put_minutes(payload, length);
+    else
+        put("bad");
+}
+
+int main(void)
+{
+    static uint8_t payload[LARGEST];
+    uint8_t head[3];
+    while (read_full(head, 3) == 3) {
+        size_t length = head[1] + 256u * head[2];
+        if (read_full(payload, length) < length)
+            break;
+        end = 0;
+        put_answer(head[0], payload, length);
+        line[end++] = '\n';
+        write(1, line, end);
+    }
+    return 0;
+}

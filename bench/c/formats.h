@@ -1,0 +1,44 @@
+/* The formats of the C baseline: readers, writers, the bridge and the pulse readers. A reader's answer has code 0 where it
+   filled in the reading, and what stands beside it. */
+#ifndef FORMATS_H
+#define FORMATS_H
+
+#include "reading.h"
+
+enum { MEINBERG_LENGTH = 32, ERLANGEN_LENGTH = 68, POSITION_START = 41, POSITION_LENGTH = 26,
+       FRAME_LENGTH = 100, MINUTE_LENGTH = 60, LONG_MINUTE_LENGTH = 61 };
+
+struct answer meinberg_read(const uint8_t *s, size_t length, struct reading *r, bool *coasting);
+struct answer meinberg_write(const struct reading *r, bool coasting, uint8_t *out, size_t room);
+
+struct answer erlangen_read(const uint8_t *s, size_t length, struct reading *r, bool *coasting);
+struct answer erlangen_write(const struct reading *r, bool coasting, const uint8_t *position, size_t position_length,
+                             uint8_t *out, size_t room);
+
+struct answer frame_read(const uint8_t *s, size_t length, struct reading *r);
+/* Marks exactly where due, and 0 or 1 elsewhere, in 100 pulses. */
+bool frame_is_outlined(const uint8_t *s);
+struct answer frame_write(const struct reading *r, uint8_t *out, size_t room);
+
+struct answer minute_read(const uint8_t *s, size_t length, struct reading *r, uint16_t *head);
+struct answer minute_write(const struct reading *r, uint16_t head, uint8_t *out, size_t room);
+
+enum kind { MEINBERG, ERLANGEN };
+struct answer bridge(enum kind kind, const uint8_t *s, size_t length, uint8_t *out, size_t room);
+
+/* The pulse readers say true where the pulse closed a frame or a minute, and then the answer. */
+struct frame_reader {
+    uint8_t last[FRAME_LENGTH]; /* a ring; the oldest pulse stands at `oldest` */
+    unsigned oldest;
+};
+void frame_reader_start(struct frame_reader *f);
+bool frame_reader_take(struct frame_reader *f, uint8_t pulse, struct answer *a, struct reading *r);
+
+struct minute_reader {
+    uint8_t marks[LONG_MINUTE_LENGTH];
+    unsigned count; /* marks since the last gap; one more than fit where there are too many, or there was no gap */
+};
+void minute_reader_start(struct minute_reader *m);
+bool minute_reader_take(struct minute_reader *m, uint8_t symbol, struct answer *a, struct reading *r, uint16_t *head);
+
+#endif

@@ -1,0 +1,134 @@
+/* The plain C baseline's reading: its fields, its calendar and the checks that every format shares. Small functions stand
+   here so that each format's file can have them inlined. */
+#ifndef READING_H
+#define READING_H
+
+#include "plain.h"
+
+enum {
+    WRONG_LENGTH = 1, WRONG_BYTE, WRONG_DIGIT, WRONG_PARITY, OUT_OF_RANGE, WRONG_WEEKDAY, WRONG_SECOND_OF_DAY,
+    WRONG_OFFSET, WRONG_SECOND, DELETED, NOT_CARRIED, OUTSIDE_STAMPS, CUT_SHORT, UNKNOWN_KIND
+};
+
+struct reading {
+    uint16_t year;
+    uint8_t month, day, hour, minute, second;
+    int8_t offset; /* local minus UTC, in half hours */
+    bool summer, leap, change;
+    uint8_t quality;
+};
+
+/* code 0: accepted, and the value is the length written; else the value is the place. */
+struct answer {
+    uint8_t code;
+    size_t value;
+};
+
+static inline struct answer refused(uint8_t code) { return (struct answer){code, 0}; }
+static inline struct answer refused_at(size_t place) { return (struct answer){WRONG_BYTE, place}; }
+static inline struct answer accepted(size_t length) { return (struct answer){0, length}; }
+
+static inline bool is_leap(unsigned year) { return year % 4 == 0 && (year % 100 != 0 || year % 400 == 0); }
+
+static inline unsigned month_length(unsigned year, unsigned month)
+{
+    static const uint8_t lengths[12] = {31, 28, 31, 30, 31, 30, 31, 31, 30, 31, 30, 31};
+    return month == 2 && is_leap(year) ? 29 : lengths[month - 1];
+}
+
+static inline unsigned day_of_year(unsigned year, unsigned month, unsigned day)
+{
+    static const uint16_t before[12] = {0, 31, 59, 90, 120, 151, 181, 212, 243, 273, 304, 334};
+    return before[month - 1] + day + (month > 2 && is_leap(year));
+}
+
+/* The days since 1 January 2000, for the years 2000 to 2099. */
+static inline unsigned day_number(unsigned year, unsigned month, unsigned day)
+{
+    unsigned years = year - 2000;
+    return years * 365 + (years + 3) / 4 + day_of_year(year, month, day) - 1;
+}
+
+/* 1 is Monday; 1 January 2000 is a Saturday. */
+static inline unsigned weekday(unsigned year, unsigned month, unsigned day)
+{
+    return (day_number(year, month, day) + 5) % 7 + 1;
+}
+
+static inline bool date_is_good(const struct reading *r)
+{
+    return r->year >= 2000 && r->year <= 2099 && r->month >= 1 && r->month <= 12 && r->day >= 1
+        && r->day <= month_length(r->year, r->month);
+}
+
+static inline bool fields_are_good(const struct reading *r)
+{
+    return date_is_good(r) && r->hour <= 23 && r->minute <= 59 && r->second <= 60 && r->quality <= 15;
+}
+
+static inline bool offset_is_good(int offset) { return offset >= -24 && offset <= 28; }
+
+/* The UTC minute of the day, 0 to 1439, and the UTC month and day of a reading with good fields. */
+struct utc {
+    int minute;
+    unsigned month, day;
+};
+
+static inline struct utc utc_of(const struct reading *r)
+{
+    struct utc u = {r->hour * 60 + r->minute - 30 * r->offset, r->month, r->day};
+    if (u.minute < 0) {
+        u.minute += 1440;
+        if (--u.day == 0) {
+            u.month = u.month == 1 ? 12 : u.month - 1;
+            u.day = month_length(r->year, u.month);
+        }
+    } else if (u.minute >= 1440) {
+        u.minute -= 1440;
+        if (++u.day > month_length(r->year, u.month)) {
+            u.month = u.month == 12 ? 1 : u.month + 1;
+            u.day = 1;
+        }
+    }
+    return u;
+}
+
+/* 23:59 UTC on 30 June or 31 December. */
+static inline bool in_leap_minute(const struct reading *r)
+{
+    struct utc u = utc_of(r);
+    return u.minute == 1439 && ((u.month == 6 && u.day == 30) || (u.month == 12 && u.day == 31));
+}
+
+/* 00:00 UTC on 1 July or 1 January. */
+static inline bool after_leap_minute(const struct reading *r)
+{
+    struct utc u = utc_of(r);
+    return u.minute == 0 && u.day == 1 && (u.month == 7 || u.month == 1);
+}
+
+static inline bool second_is_good(const struct reading *r) { return r->second != 60 || in_leap_minute(r); }
+
+/* The stamp of a reading that its reader accepted; false where its UTC day lies outside 2000 to 2099. */
+static inline bool stamp_of(const struct reading *r, uint64_t *stamp)
+{
+    int minute = r->hour * 60 + r->minute - 30 * r->offset;
+    int day = (int)day_number(r->year, r->month, r->day) + (minute < 0 ? -1 : minute >= 1440 ? 1 : 0);
+    if (day < 0 || day > 36524)
+        return false;
+    minute += minute < 0 ? 1440 : minute >= 1440 ? -1440 : 0;
+    *stamp = (uint64_t)day * 86401 + (uint64_t)minute * 60 + r->second;
+    return true;
+}
+
+/* What every writer asks of a reading: 0, or the lowest of the codes 5, 8 and 9. */
+static inline uint8_t reading_code(const struct reading *r)
+{
+    if (!fields_are_good(r))
+        return OUT_OF_RANGE;
+    if (!offset_is_good(r->offset))
+        return WRONG_OFFSET;
+    return second_is_good(r) ? 0 : WRONG_SECOND;
+}
+
+#endif

@@ -1,0 +1,129 @@
+/* The program crates/timed over the C baseline: one operation on each of the records that stand on standard input, and a
+   sum over the answers. */
+#include "cases.h"
+#include "formats.h"
+
+static uint64_t of_reading(const struct reading *r)
+{
+    unsigned offset = (unsigned)(r->offset < 0 ? -r->offset : r->offset);
+    return (uint64_t)r->year + r->month + r->day + r->hour + r->minute + r->second + offset
+        + r->summer + r->leap + r->change + r->quality;
+}
+
+static uint64_t of_answer(struct answer a) { return 256 * (uint64_t)a.code + a.value; }
+
+static uint64_t of_read(struct answer a, const struct reading *r, unsigned beside)
+{
+    return a.code ? of_answer(a) : of_reading(r) + beside;
+}
+
+/* Not inlined, so that the choice of the operation is made for each record, as it is in crates/timed. */
+__attribute__((noinline)) static uint64_t read_one(uint8_t op, const uint8_t *record, size_t size, uint8_t *page)
+{
+    struct reading r;
+    bool coasting = false;
+    uint16_t head = 0;
+    struct answer a;
+    switch (op) {
+    case 1: a = meinberg_read(record, size, &r, &coasting); return of_read(a, &r, coasting);
+    case 2: a = erlangen_read(record, size, &r, &coasting); return of_read(a, &r, coasting);
+    case 3: a = frame_read(record, size, &r); return of_read(a, &r, 0);
+    case 4: a = minute_read(record, size, &r, &head); return of_read(a, &r, head);
+    case 13: return of_answer(bridge(MEINBERG, record, size, page, PAGE));
+    case 14: return of_answer(bridge(ERLANGEN, record, size, page, PAGE));
+    default: return size;
+    }
+}
+
+static uint64_t frames(const uint8_t *pulses, size_t count)
+{
+    struct frame_reader f;
+    struct answer a;
+    struct reading r;
+    uint64_t sum = 0;
+    frame_reader_start(&f);
+    for (size_t i = 0; i < count; i++)
+        if (frame_reader_take(&f, pulses[i], &a, &r))
+            sum += a.code ? of_answer(a) : of_reading(&r);
+    return sum;
+}
+
+static uint64_t minutes(const uint8_t *symbols, size_t count)
+{
+    struct minute_reader m;
+    struct answer a;
+    struct reading r;
+    uint16_t head;
+    uint64_t sum = 0;
+    minute_reader_start(&m);
+    for (size_t i = 0; i < count; i++)
+        if (minute_reader_take(&m, symbols[i], &a, &r, &head))
+            sum += a.code ? of_answer(a) : of_reading(&r) + head;
+    return sum;
+}
+
+/* Where the record that starts at `at` ends; the last may be cut off. */
+static size_t end_of(size_t at, size_t size, size_t length)
+{
+    return size < 1 || length - at < size ? length : at + size;
+}
+
+static uint64_t reads(uint8_t op, size_t size, const uint8_t *records, size_t length, uint8_t *page)
+{
+    uint64_t sum = 0;
+    for (size_t at = 0, end; at < length; at = end) {
+        end = end_of(at, size, length);
+        sum += read_one(op, records + at, end - at, page);
+    }
+    return sum;
+}
+
+__attribute__((noinline)) static uint64_t write_one(uint8_t op, const struct reading *r, const uint8_t *record, size_t size,
+                                                    uint8_t *page)
+{
+    if (size < WRITER_LENGTH)
+        return 0;
+    uint16_t beside = beside_in(record);
+    size_t room = record[14] < PAGE ? record[14] : PAGE;
+    switch (op) {
+    case 5: return of_answer(meinberg_write(r, beside != 0, page, room));
+    case 6: return of_answer(erlangen_write(r, beside != 0, record + WRITER_LENGTH, size - WRITER_LENGTH, page, room));
+    case 7: return of_answer(frame_write(r, page, room));
+    case 8: return of_answer(minute_write(r, beside, page, room));
+    default: return beside;
+    }
+}
+
+/* All readings are taken apart first, as crates/timed does. */
+static uint64_t writes(uint8_t op, size_t size, const uint8_t *records, size_t length, uint8_t *page)
+{
+    static struct reading readings[MOST];
+    uint64_t sum = 0;
+    for (size_t at = 0, n = 0, end; at < length && n < MOST; at = end, n++) {
+        end = end_of(at, size, length);
+        if (end - at >= WRITER_LENGTH)
+            readings[n] = reading_in(records + at);
+    }
+    for (size_t at = 0, n = 0, end; at < length && n < MOST; at = end, n++) {
+        end = end_of(at, size, length);
+        sum += write_one(op, &readings[n], records + at, end - at, page);
+    }
+    return sum;
+}
+
+int main(void)
+{
+    static uint8_t input[65536], page[PAGE];
+    uint8_t head[2];
+    read_full(head, 2);
+    size_t length = read_full(input, sizeof input);
+    uint8_t op = head[0];
+    uint64_t sum = op == 11 ? frames(input, length)
+        : op == 12 ? minutes(input, length)
+        : op >= 5 && op <= 9 ? writes(op, head[1], input, length, page)
+        : reads(op, head[1], input, length, page);
+    print_decimal(sum);
+    write(1, "\n", 1);
+    write(1, page, PAGE);
+    return 0;
+}

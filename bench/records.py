@@ -1,0 +1,139 @@
+"""The records that are counted: for every operation a hundred and more different ones, made with the second program."""
+import datetime
+import struct
+import sys
+
+import kit
+
+sys.path.insert(0, str(kit.ROOT / "second"))
+import case_parts  # noqa: E402
+import dcf77  # noqa: E402
+import erlangen  # noqa: E402
+import ieee1344  # noqa: E402
+import meinberg  # noqa: E402
+from reading import Reading  # noqa: E402
+
+POSITION = case_parts.POSITION
+ROOM = 128
+START = datetime.datetime(2000, 1, 1)
+FORMATS = ("Meinberg", "Uni Erlangen", "IEEE 1344", "DCF77")
+LARGEST_OFFSET = 28
+OFFSETS = 53
+
+
+def zone_of(form, number):
+    """Offset and summer flag that the format can carry."""
+    if form == "Meinberg":
+        return ((0, False), (2, False), (4, True))[number % 3]
+    if form == "DCF77":
+        return ((2, False), (4, True))[number % 2]
+    return LARGEST_OFFSET - number * 5 % OFFSETS, number % 2 == 1
+
+
+def quality_of(form, number):
+    if form == "IEEE 1344":
+        return number % 16
+    return 15 if form != "DCF77" and number % 5 == 0 else 0
+
+
+def reading_of(form, number):
+    """Dates from all the hundred years, every zone; each that the format carries."""
+    at = START + datetime.timedelta(days=number * 7919 % 36525, minutes=number * 617 % 1440, seconds=number * 37 % 60)
+    offset, summer = zone_of(form, number)
+    second = 0 if form == "DCF77" else at.second
+    return Reading(at.year, at.month, at.day, at.hour, at.minute, second, offset, summer, number % 7 == 0, number % 7 == 3,
+                   quality_of(form, number))
+
+
+def beside_of(form, number):
+    """The head, or the coasting mark."""
+    return number * 1237 % 32768 if form == "DCF77" else int(number % 3 == 0)
+
+
+def long_minute_of(number):
+    """A reading whose minute has 61 marks: 00:00 UTC of 1 January or 1 July with a leap second announced."""
+    offset, summer = zone_of("DCF77", number)
+    first = datetime.datetime(2001 + number % 98, 1 if number % 2 else 7, 1)
+    return case_parts.local(first, offset, summer=summer, leap=True)
+
+
+def text_of(form, reading, number):
+    """What the second program's writer writes."""
+    out, beside = bytearray(ROOM), beside_of(form, number)
+    length = {
+        "Meinberg": lambda: meinberg.write(reading, beside != 0, out),
+        "Uni Erlangen": lambda: erlangen.write(reading, beside != 0, POSITION, out),
+        "IEEE 1344": lambda: ieee1344.write(reading, out),
+        "DCF77": lambda: dcf77.write(reading, beside, out),
+    }[form]()
+    return bytes(out[:length])
+
+
+def accepted(form, number):
+    return text_of(form, reading_of(form, number), number)
+
+
+def too_short(form, number):
+    return accepted(form, number)[:-1] if form != "DCF77" else accepted(form, number)[:-2]
+
+
+def first_byte_wrong(form, number):
+    return b"\x07" + accepted(form, number)[1:]
+
+
+def refused_late(form, number):
+    """By the reader's last check: second 60 where there is none, pulse 61, or 60 marks where 61 are due."""
+    reading = reading_of(form, number)
+    sixty = reading._replace(second=60, minute=number % 59)
+    if form == "Meinberg":
+        return case_parts.raw_meinberg(sixty)
+    if form == "Uni Erlangen":
+        return case_parts.raw_erlangen(sixty)
+    if form == "IEEE 1344":
+        return bytes(case_parts.raw_frame(reading, deletion=1))
+    return bytes(case_parts.raw_minute(long_minute_of(number), beside_of(form, number), length=60))
+
+
+def asked(form, reading, number, room=ROOM):
+    """A writer's record: reading, what stands beside it, room, and the position part."""
+    record = case_parts.reading_bytes(reading) + struct.pack("<HB", beside_of(form, number), room)
+    return record + POSITION if form == "Uni Erlangen" else record
+
+
+def asked_well(form, number):
+    return asked(form, reading_of(form, number), number)
+
+
+def without_room(form, number):
+    return asked(form, reading_of(form, number), number, room=10)
+
+
+def asked_in_vain(form, number):
+    """Refused by the writer's last check: what it cannot carry, second 60, or a long minute in the room of 60."""
+    reading = reading_of(form, number)
+    if form == "IEEE 1344":
+        return asked(form, reading._replace(second=60, minute=number % 59), number)
+    if form == "DCF77":
+        return asked(form, long_minute_of(number), number, room=60)
+    return asked(form, reading._replace(quality=1 + number % 14), number)
+
+
+def frames(count):
+    return b"".join(accepted("IEEE 1344", number) for number in range(count))
+
+
+def minutes(count):
+    """A gap, and minutes of 60 marks."""
+    return b"\x02" + b"".join(accepted("DCF77", number) for number in range(1, count + 1))
+
+
+def book(count):
+    """Records of every kind in turn, one in ten of them refused."""
+    parts = []
+    for number in range(count):
+        place = number % 5
+        form = FORMATS[min(place, 3)]
+        body = accepted(form, number) if place < 4 else text_of(form, long_minute_of(number), number)
+        body = first_byte_wrong(form, number) if number % 50 in (3, 12, 21, 30, 49) and place < 4 else body
+        parts.append(bytes((place + 1,)) + body)
+    return b"".join(parts)

@@ -1,0 +1,107 @@
+"""The rows of the table: what is counted, on which records, and what of it is the driver's own work."""
+import collections
+
+import counting
+import records
+
+SHORT = 20
+GOAL = 1.25
+PULSE_GOAL = 150
+READ, WRITE, BRIDGE = 1, 5, 13
+FRAME_PULSES, MINUTE_PULSES = 11, 12
+# Operations that are the driver's work alone: its loop over the records, and for writers the readings taken apart before.
+LOOP, DECODING = 0, 9
+
+# A row: its name, the operation, the record of each number, the driver's operation that is taken off.
+Row = collections.namedtuple("Row", "name op record driver")
+# What was counted: instructions a record of ours and of the C baseline, and the goal where there is one of its own.
+Counted = collections.namedtuple("Counted", "name ours plain most", defaults=(None,))
+
+
+def of_format(make, form):
+    return lambda number: make(form, number)
+
+
+def record_rows():
+    """Every reader and writer: accepted, refused early, refused by its last check; and the bridge."""
+    rows = []
+    reads = (("accepted", records.accepted), ("refused: length", records.too_short),
+             ("refused: first byte", records.first_byte_wrong), ("refused: last check", records.refused_late))
+    writes = (("accepted", records.asked_well), ("refused: no room", records.without_room),
+              ("refused: last check", records.asked_in_vain))
+    for place, form in enumerate(records.FORMATS):
+        rows += [Row(f"read {form}, {name}", READ + place, of_format(make, form), LOOP) for name, make in reads]
+    for place, form in enumerate(records.FORMATS):
+        rows += [Row(f"write {form}, {name}", WRITE + place, of_format(make, form), DECODING) for name, make in writes]
+    for place, form in enumerate(records.FORMATS[:2]):
+        rows.append(Row(f"bridge {form}, accepted", BRIDGE + place, of_format(records.accepted, form), LOOP))
+    return rows
+
+
+def given_to(op, made):
+    return bytes((op, len(made[0]))) + b"".join(made)
+
+
+def difference(program, short, long):
+    """The instructions that the longer input costs more, and what the program writes of it."""
+    before, _ = counting.counted(program, short)
+    after, wrote = counting.counted(program, long)
+    return after - before, wrote
+
+
+def both(programs, short, long):
+    """The same for ours and the C baseline, which have to write the same."""
+    (ours, wrote), (plain, wrote_too) = (difference(program, short, long) for program in programs)
+    if wrote != wrote_too:
+        raise SystemExit(f"bench: {programs[0]} and {programs[1]} differ on an input that begins {long[:40]}")
+    return ours, plain
+
+
+def per_record(programs, op, record, length):
+    """Instructions a record, of ours and of the C baseline, the driver's work included."""
+    made = [record(number) for number in range(length)]
+    ours, plain = both(programs, given_to(op, made[:SHORT]), given_to(op, made))
+    return ours / (length - SHORT), plain / (length - SHORT)
+
+
+def drivers(programs, length):
+    """The driver's own work a record."""
+    loop = per_record(programs, LOOP, of_format(records.accepted, "Meinberg"), length)
+    decoding = per_record(programs, DECODING, of_format(records.asked_well, "IEEE 1344"), length)
+    return {LOOP: loop, DECODING: decoding}
+
+
+def counted_rows(programs, length):
+    """Each row's counts, the driver's work taken off."""
+    own = drivers(programs, length)
+    yield Counted("driver of readers and bridge", *own[LOOP])
+    yield Counted("driver of writers", *own[DECODING])
+    for row in record_rows():
+        ours, plain = per_record(programs, row.op, row.record, length)
+        yield Counted(row.name, ours - own[row.driver][0], plain - own[row.driver][1])
+
+
+def pulses_between(programs, op, stream, first, last):
+    """Instructions a pulse for the pulses from number `first` on, up to `last`."""
+    ours, plain = both(programs, bytes((op, 1)) + stream[: first - 1], bytes((op, 1)) + stream[:last])
+    return ours / (last + 1 - first), plain / (last + 1 - first)
+
+
+def pulse_rows(programs):
+    """A pulse of a running reader: those that close nothing, the one that closes, and one that nearly closes."""
+    frames, minutes = records.frames(3), records.minutes(4)
+    nearly = frames[:299] + b"\x00"
+    unclosed = minutes[:181] + bytes(61)
+    kinds = (("IEEE 1344", FRAME_PULSES, frames, 201, 299, nearly, 300),
+             ("DCF77", MINUTE_PULSES, minutes, 182, 240, unclosed, 242))
+    for form, op, stream, first, last, spoiled, at in kinds:
+        yield Counted(f"pulse {form}, closes nothing (mean)", *pulses_between(programs, op, stream, first, last), PULSE_GOAL)
+        worst = pulses_between(programs, op, spoiled, at, at)
+        yield Counted(f"pulse {form}, closes nothing (nearly)", *worst, PULSE_GOAL)
+        yield Counted(f"pulse {form}, closes", *pulses_between(programs, op, stream, last + 1, last + 1))
+
+
+def listing_rows(programs, length):
+    """A record of the listing program, reading, stamping and printing together."""
+    ours, plain = both(programs, records.book(SHORT), records.book(length))
+    yield Counted("listed record", ours / (length - SHORT), plain / (length - SHORT))

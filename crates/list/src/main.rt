@@ -1,0 +1,71 @@
+// Lists a book: reads it from standard input, and writes its listing to standard output. What the listing says is proved of
+// the crate `listing`; here only bytes come in and go out. A program of Rattle has no exit status, so that what went wrong
+// is said on standard error.
+use libc::STDERR_FILENO;
+use libc::STDIN_FILENO;
+use libc::STDOUT_FILENO;
+use reading::Written;
+ghost use mathlib.Core.Path.{_≡_};
+ghost use Prim.Native.Nat.{_≤_};
+ghost use lib.ListN.{length};
+ghost use Rattle.list.specs.Input.{Within};
+
+// What came of reading: how many bytes, or that a read failed.
+enum Input {
+    Bytes(usize),
+    Failed,
+}
+
+// The largest book that is listed, and a byte more, which tells a book that is too long.
+fn space_for_book() -> [u8; 65537]
+    ensures { λ r. ⌜ 65537 ≡ length r ⌝ }
+{
+    [0; 65537]
+}
+
+fn space_for_listing() -> [u8; 262144]
+    ensures { λ r. ⌜ 262144 ≡ length r ⌝ }
+{
+    [0; 262144]
+}
+
+// Reads until the space is full or the input ends. A read may give fewer bytes than it was asked for.
+fn read_book(space: &mut [u8]) -> Input
+    ensures { λ r. ⌜ Within r (now (space .exit)) ⌝ }
+{
+    let mut done = 0;
+    while done < space.len() {
+        let got = libc::read(STDIN_FILENO, &mut space[done..]);
+        if got < 0 {
+            return Input::Failed;
+        }
+        let more = io::count(got, &space[done..]);
+        if more == 0 {
+            return Input::Bytes(done);
+        }
+        done += more;
+    }
+    Input::Bytes(done)
+}
+
+fn write_listing(book: &[u8], page: &mut [u8]) {
+    if let Written::Length(n) = listing::list(book, page) {
+        if !io::write_all(STDOUT_FILENO, &page[..n]) {
+            io::write_all(STDERR_FILENO, b"list: standard output cannot be written\n");
+        }
+    }
+}
+
+fn list_input(space: &mut [u8], page: &mut [u8]) {
+    if let Input::Bytes(n) = read_book(space) {
+        write_listing(&space[..n], page);
+        return;
+    }
+    io::write_all(STDERR_FILENO, b"list: standard input cannot be read\n");
+}
+
+fn main() {
+    let mut space = space_for_book();
+    let mut page = space_for_listing();
+    list_input(&mut space, &mut page);
+}

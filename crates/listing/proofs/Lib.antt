@@ -1,0 +1,5 @@
+pub mod PutLaws
+pub mod LineLaws
+pub mod RoomLaws
+pub mod Worked
+pub mod Unique

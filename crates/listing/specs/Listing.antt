@@ -1,0 +1,83 @@
+-- The listing of a book, as text.
+use mathlib.Core.Bool.{cond}
+use mathlib.Core.List.{List, [], _∷_, _++_}
+use Prim.Native.Nat.{ℕ}
+use lib.Dec.{leb, ltb}
+use lib.ListN.{length}
+use Rattle.reading.specs.declared.Fault.the-variants.{Length}
+use Rattle.reading.specs.declared.Verdict.{Verdict}
+use Rattle.reading.specs.declared.Verdict.the-variants.{Good, Bad}
+use Rattle.reading.specs.Faults.{number}
+use Rattle.text.specs.Decimal.{decimal}
+use Rattle.book.specs.declared.Record.{Record}
+use Rattle.book.specs.declared.Record.the-variants.{Over, Stamped, Refused}
+use Rattle.book.specs.Book.{Entry, records}
+
+-- `at kind answer value place` and a line feed
+abbrev pub header : List ℕ
+header =
+    97 ∷ 116 ∷ 32
+    ∷ 107 ∷ 105 ∷ 110 ∷ 100 ∷ 32
+    ∷ 97 ∷ 110 ∷ 115 ∷ 119 ∷ 101 ∷ 114 ∷ 32
+    ∷ 118 ∷ 97 ∷ 108 ∷ 117 ∷ 101 ∷ 32
+    ∷ 112 ∷ 108 ∷ 97 ∷ 99 ∷ 101 ∷ 10
+    ∷ []
+
+-- a number in decimal, and the bytes behind it
+abbrev pub field : ℕ → List ℕ → List ℕ
+field n behind = decimal n ++ behind
+
+-- a blank
+abbrev pub blank : List ℕ
+blank = 32 ∷ []
+
+-- a blank, `ok` and a blank
+abbrev pub okWord : List ℕ
+okWord = 32 ∷ 111 ∷ 107 ∷ 32 ∷ []
+
+-- a blank, `no` and a blank
+abbrev pub noWord : List ℕ
+noWord = 32 ∷ 110 ∷ 111 ∷ 32 ∷ []
+
+-- a blank, `0` and a line feed
+abbrev pub zeroAtEnd : List ℕ
+zeroAtEnd = 32 ∷ 48 ∷ 10 ∷ []
+
+-- "Every line ends with a line feed"
+abbrev pub lineFeed : List ℕ
+lineFeed = 10 ∷ []
+
+-- "kind in decimal, `ok` with stamp and 0, or `no` with code and place"; nothing where there is no record
+abbrev pub foundText : Record → List ℕ
+foundText Over = []
+foundText (Stamped kind stamp) = field kind okWord ++ field stamp zeroAtEnd
+foundText (Refused kind refusal) = field kind noWord ++ field (refusal .code) blank ++ field (refusal .place) lineFeed
+
+-- "offset of the kind byte", then what was found there
+unfoldable pub lineAt : ℕ → Record → List ℕ
+lineAt at found = field at blank ++ foundText found
+
+-- "a line a record"
+unfoldable pub linesOf : List Entry → List ℕ
+linesOf [] = []
+linesOf (e ∷ l) = lineAt (e .place) (e .found) ++ linesOf l
+
+-- "at most 65,536 bytes"
+abbrev pub largestBook : ℕ
+largestBook = 65536
+
+-- "A longer book gives the header and `0 0 no 1 0`."
+unfoldable pub bodyText : ℕ → List ℕ → List ℕ
+bodyText base b = cond (leb (length b) largestBook) (linesOf (records base b)) (lineAt 0 (Refused 0 (number Length)))
+
+-- "Header, then a line a record"
+unfoldable pub listing : ℕ → List ℕ → List ℕ
+listing base b = header ++ bodyText base b
+
+-- a buffer of this many bytes holds every listing
+abbrev pub roomForAny : ℕ
+roomForAny = 262144
+
+-- a smaller buffer is refused
+abbrev pub roomFault : ℕ → Verdict
+roomFault n = cond (ltb n roomForAny) (Bad Length) Good

@@ -1,0 +1,125 @@
+// The listing of a book as text in a lent buffer: a header, then a line a record.
+use book::Record;
+use book::next_at;
+use book::record_at;
+use reading::Fault;
+use reading::Refusal;
+use reading::Written;
+use reading::faults::refusal_of;
+use text::put_decimal;
+use wire::put::put_at;
+ghost use mathlib.Core.Path.{_≡_};
+ghost use Prim.Native.Nat.{_+_, _≤_};
+ghost use lib.ListN.{length};
+ghost use Rattle.reading.specs.Years.{base};
+ghost use Rattle.reading.specs.Writing.{writtenOf, filled};
+ghost use Rattle.wire.specs.Put.{stored};
+ghost use Rattle.book.specs.declared.Record.the-variants.{Stamped, Refused};
+ghost use Rattle.book.specs.Book.{records};
+ghost use Rattle.listing.specs.Listing.{field, foundText, lineAt, linesOf, bodyText, listing, roomFault};
+
+// A longer book is not listed.
+pub const LARGEST_BOOK: usize = 65536;
+
+// A buffer of this many bytes holds every listing.
+pub const ROOM: usize = 262144;
+
+// Stores a word where there is room for it, and answers where it ends.
+fn put(out: &mut [u8], at: usize, word: &[u8]) -> usize
+    requires { ⌜ at + length (now word) ≤ length (now out) ⌝ }
+    ensures { λ r. ⌜ r ≡ at + length (now (word .entry)) ⌝ }
+    ensures { λ r. ⌜ now (out .exit) ≡ stored at (now (word .entry)) (now (out .entry)) ⌝ }
+{
+    put_at(out, at, word);
+    at + word.len()
+}
+
+// Stores a number's digits and what stands behind them.
+fn put_number(out: &mut [u8], at: usize, number: u64, behind: &[u8]) -> usize
+    requires { ⌜ at + length (field number (now behind)) ≤ length (now out) ⌝ }
+    ensures { λ r. ⌜ r ≡ at + length (field number (now (behind .entry))) ⌝ }
+    ensures { λ r. ⌜ now (out .exit) ≡ stored at (field number (now (behind .entry))) (now (out .entry)) ⌝ }
+{
+    let digits = put_decimal(out, at, number);
+    put(out, at + digits, behind)
+}
+
+fn put_stamped(out: &mut [u8], at: usize, kind: u8, stamp: u64) -> usize
+    requires { ⌜ at + length (foundText (Stamped kind stamp)) ≤ length (now out) ⌝ }
+    ensures { λ r. ⌜ r ≡ at + length (foundText (Stamped kind stamp)) ⌝ }
+    ensures { λ r. ⌜ now (out .exit) ≡ stored at (foundText (Stamped kind stamp)) (now (out .entry)) ⌝ }
+{
+    let value = put_number(out, at, kind as u64, b" ok ");
+    put_number(out, value, stamp, b" 0\n")
+}
+
+fn put_refused(out: &mut [u8], at: usize, kind: u8, refusal: Refusal) -> usize
+    requires { ⌜ at + length (foundText (Refused kind refusal)) ≤ length (now out) ⌝ }
+    ensures { λ r. ⌜ r ≡ at + length (foundText (Refused kind refusal)) ⌝ }
+    ensures { λ r. ⌜ now (out .exit) ≡ stored at (foundText (Refused kind refusal)) (now (out .entry)) ⌝ }
+{
+    let code = put_number(out, at, kind as u64, b" no ");
+    let place = put_number(out, code, refusal.code as u64, b" ");
+    put_number(out, place, refusal.place as u64, b"\n")
+}
+
+fn put_found(out: &mut [u8], at: usize, found: Record) -> usize
+    requires { ⌜ at + length (foundText found) ≤ length (now out) ⌝ }
+    ensures { λ r. ⌜ r ≡ at + length (foundText found) ⌝ }
+    ensures { λ r. ⌜ now (out .exit) ≡ stored at (foundText found) (now (out .entry)) ⌝ }
+{
+    match found {
+        Record::Over => put(out, at, b""),
+        Record::Stamped(kind, stamp) => put_stamped(out, at, kind, stamp),
+        Record::Refused(kind, refusal) => put_refused(out, at, kind, refusal),
+    }
+}
+
+// Stores the line of what was found at a place of a book.
+fn put_line(out: &mut [u8], at: usize, place: usize, found: Record) -> usize
+    requires { ⌜ at + length (lineAt place found) ≤ length (now out) ⌝ }
+    ensures { λ r. ⌜ r ≡ at + length (lineAt place found) ⌝ }
+    ensures { λ r. ⌜ now (out .exit) ≡ stored at (lineAt place found) (now (out .entry)) ⌝ }
+{
+    let kind = put_number(out, at, place as u64, b" ");
+    put_found(out, kind, found)
+}
+
+// Stores the lines of all the records of a book.
+fn put_records(out: &mut [u8], start: usize, book: &[u8]) -> usize
+    requires { ⌜ start + length (linesOf (records base (now book))) ≤ length (now out) ⌝ }
+    ensures { λ r. ⌜ r ≡ start + length (linesOf (records base (now (book .entry)))) ⌝ }
+    ensures { λ r. ⌜ now (out .exit) ≡ stored start (linesOf (records base (now (book .entry)))) (now (out .entry)) ⌝ }
+{
+    let mut end = start;
+    let mut at = 0;
+    while at < book.len() {
+        end = put_line(out, end, at, record_at(book, at));
+        at = next_at(book, at);
+    }
+    end
+}
+
+fn put_body(out: &mut [u8], start: usize, book: &[u8]) -> usize
+    requires { ⌜ start + length (bodyText base (now book)) ≤ length (now out) ⌝ }
+    ensures { λ r. ⌜ r ≡ start + length (bodyText base (now (book .entry))) ⌝ }
+    ensures { λ r. ⌜ now (out .exit) ≡ stored start (bodyText base (now (book .entry))) (now (out .entry)) ⌝ }
+{
+    if LARGEST_BOOK < book.len() {
+        return put_line(out, start, 0, Record::Refused(0, refusal_of(Fault::Length)));
+    }
+    put_records(out, start, book)
+}
+
+// The listing of any book from the start of a buffer that holds every listing; a smaller buffer is left as it was.
+pub fn list(book: &[u8], out: &mut [u8]) -> Written
+    ensures { λ w. ⌜ w ≡ writtenOf (roomFault (length (now (out .entry)))) (length (listing base (now (book .entry)))) ⌝ }
+    ensures { λ w. ⌜ now (out .exit) ≡ filled (roomFault (length (now (out .entry)))) (listing base (now (book .entry))) (now (out .entry)) ⌝ }
+{
+    if out.len() < ROOM {
+        return Written::No(refusal_of(Fault::Length));
+    }
+    let start = put(out, 0, b"at kind answer value place\n");
+    let end = put_body(out, start, book);
+    Written::Length(end)
+}

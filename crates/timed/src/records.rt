@@ -1,0 +1,52 @@
+// Reading each record, or bridging it.
+use super::answers;
+use bridge::Kind;
+use bridge::bridge;
+use dcf77::Dcf77;
+use erlangen::Erlangen;
+use irig::Ieee1344;
+use meinberg::Meinberg;
+use std::num::wrapping_add_u64;
+ghost use Prim.Native.Nat.{_<_, _≤_};
+
+fn bridged(kind: Kind, given: &[u8], page: &mut [u8]) -> u64 {
+    answers::of_written(bridge(kind, given, page))
+}
+
+fn once(op: u8, given: &[u8], page: &mut [u8]) -> u64 {
+    match op {
+        1 => answers::of_string(Meinberg::read(given)),
+        2 => answers::of_string(Erlangen::read(given)),
+        3 => answers::of_frame(Ieee1344::read(given)),
+        4 => answers::of_minute(Dcf77::read(given)),
+        13 => bridged(Kind::Meinberg, given, page),
+        14 => bridged(Kind::Erlangen, given, page),
+        _ => given.len() as u64,
+    }
+}
+
+// Where the record that starts at `at` ends; the last may be cut off.
+pub(crate) fn end_of(at: usize, size: usize, length: usize) -> usize
+    requires { ⌜ at < length ⌝ }
+    ensures { λ r. ⌜ (at < r) × (r ≤ length) ⌝ }
+{
+    let left = length - at;
+    if size < 1 {
+        return length;
+    }
+    if left < size {
+        return length;
+    }
+    at + size
+}
+
+pub(crate) fn over(op: u8, size: usize, records: &[u8], page: &mut [u8]) -> u64 {
+    let mut sum: u64 = 0;
+    let mut at = 0;
+    while at < records.len() {
+        let end = end_of(at, size, records.len());
+        sum = wrapping_add_u64(sum, once(op, &records[at..end], page));
+        at = end;
+    }
+    sum
+}
