@@ -1,3 +1,4 @@
-pub mod StreamLaws
 pub mod SymbolLaws
+pub mod RingLaws
+pub mod StreamLaws
 pub mod Unique

@@ -1,2 +1,3 @@
+pub mod RingLaws
 pub mod StreamLaws
 pub mod Unique

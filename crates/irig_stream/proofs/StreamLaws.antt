@@ -4,36 +4,22 @@ use mathlib.Core.List.{List, [], _∷_, _++_}
 use mathlib.Core.Path.{_≡_, refl, ap}
 use Prim.Native.Nat.{ℕ, _≤_, _<_}
 use native.Mathlib.Omega.{arith}
-use lib.Dec.{leb, eqb}
+use lib.Dec.{leb}
 use lib.ListN.{length, getD, replicate}
 use borrow.Author.Tests.{leb-true, leb-false}
-use Rattle.pulses.specs.Row.{groupOf}
-use Rattle.pulses.specs.Outline.{inOutline, outlineOf}
-use Rattle.pulses.proofs.OutlineLaws.{outlineAt, outline-each, outline-mark}
+use Rattle.pulses.specs.Outline.{outlineOf}
 use Rattle.irig_table.specs.Table.{framePulses}
-use Rattle.irig_table.proofs.TableLaws.{frame-length}
 use Rattle.streams.specs.Stream.{push, lastOf, windowOf, saidTo, owedTo}
 use Rattle.streams.proofs.Window.{window-push, window-full, window-early}
 use Rattle.streams.proofs.Runs as runs
 use Rattle.irig_stream.specs.declared.Said.{Said}
 use Rattle.irig_stream.specs.declared.Said.the-variants.{Nothing}
 use Rattle.irig_stream.specs.Said.{kept, filler, sayOf, owed}
-
--- the first place of a frame is a mark
-first-is-mark : groupOf (getD framePulses 0 0) ≡ 1
-unfolding groupOf framePulses
-first-is-mark = refl
+use Rattle.irig_stream.proofs.RingLaws.{first-is-mark, lacks-mark}
 
 -- a window whose oldest is the filler has no outline
 no-outline : (w : List ℕ) → getD w 0 0 ≡ filler → outlineOf framePulses w ≡ false
-no-outline w e = go (outlineOf framePulses w) refl
-  where
-    go : (b : Bool) → outlineOf framePulses w ≡ b → b ≡ false
-    go false k = refl
-    go true k = absurd (clash (outline-mark (getD framePulses 0 0) (getD w 0 0) first-is-mark (outline-each framePulses w k 0 (omega (arith, frame-length)))))
-      where
-        clash : getD w 0 0 ≡ 2 → ⊥
-        clash h = omega arith
+no-outline w e = lacks-mark w 0 (omega arith) first-is-mark (λ m. omega arith)
 
 by-test : (base : ℕ) (h : List ℕ) (b : Bool) → leb kept (length h) ≡ b → sayOf base (windowOf kept filler h) ≡ cond b (sayOf base (lastOf kept h)) Nothing
 unfolding sayOf
