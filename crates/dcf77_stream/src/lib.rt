@@ -143,14 +143,13 @@ impl PulseReader {
         ensures { λ r. ⌜ r ≡ record { reader = taken self symbol; said = sayOf base (push (keptBy self) symbol) } ⌝ }
     {
         let place = place_of(self.next);
-        let mut ring = self.ring;
-        ring[place] = symbol;
-        let said = say_closed(&ring, place);
+        let old = self.ring;
+        let mut new = old;
+        new[place] = symbol;
+        let said = say_closed(&new, place);
+        let next = place + 1;
         Stepped {
-            reader: PulseReader {
-                ring,
-                next: place + 1,
-            },
+            reader: PulseReader { ring: new, next },
             said,
         }
     }

@@ -103,14 +103,13 @@ impl PulseReader {
         ensures { λ r. ⌜ r ≡ record { reader = taken self pulse; said = sayOf base (push (keptBy self) pulse) } ⌝ }
     {
         let place = place_of(self.next);
-        let mut ring = self.ring;
-        ring[place] = pulse;
-        let said = say_closed(&ring, place);
+        let old = self.ring;
+        let mut new = old;
+        new[place] = pulse;
+        let said = say_closed(&new, place);
+        let next = place + 1;
         Stepped {
-            reader: PulseReader {
-                ring,
-                next: place + 1,
-            },
+            reader: PulseReader { ring: new, next },
             said,
         }
     }

@@ -26,8 +26,8 @@ stepped reader symbol place said l h e s =
 place-of-requires : tie.Need-place-of-requires
 place-of-requires c κs = search needs
 
-array-write-ring : tie.Need-array-write-ring
-array-write-ring c = search needs
+array-write-new : tie.Need-array-write-new
+array-write-new c = search needs
 
 slice-aggregate-say-closed : tie.Need-slice-aggregate-say-closed
 slice-aggregate-say-closed c = search needs
@@ -35,7 +35,7 @@ slice-aggregate-say-closed c = search needs
 say-closed-requires : tie.Need-say-closed-requires
 say-closed-requires c κs = search needs
 
-add-next : tie.Need-add-t11
+add-next : tie.Need-add-next
 add-next c = search needs
 
 returns : tie.Need-returns
@@ -49,7 +49,7 @@ step-spec =
     tie.close
     (tie.spec
     place-of-requires
-    array-write-ring
+    array-write-new
     slice-aggregate-say-closed
     say-closed-requires
     add-next
