@@ -31,6 +31,11 @@ module _ {A : Type 0} where
   saidTo say w [] = []
   saidTo say w (p ∷ ps) = say (push w p) ∷ saidTo say (push w p) ps
 
+  -- what a reader says after each of them, step by step: a state keeps a window, and a pulse taken gives the next state
+  unfoldable pub saidBy : {S : Type 0} → (S → List ℕ) → (S → ℕ → S) → (List ℕ → A) → S → List ℕ → List A
+  saidBy keeps takes say s [] = []
+  saidBy keeps takes say s (p ∷ ps) = say (push (keeps s) p) ∷ saidBy keeps takes say (takes s p) ps
+
   -- what is owed after each of the pulses that come after the pulses h
   unfoldable pub owedTo : (List ℕ → A) → List ℕ → List ℕ → List A
   owedTo owed h [] = []
