@@ -2,12 +2,12 @@
 use mathlib.Core.Bool.{Bool, true, false, cond, _&&_}
 use mathlib.Core.List.{List, [], _∷_, _++_}
 use mathlib.Core.Path.{_≡_, refl, sym, ap, _∙_}
-use Prim.Native.Nat.{ℕ, _+_, _≤_, _<_}
+use Prim.Native.Nat.{ℕ, _+_, _≤_}
 use native.Mathlib.Omega.{arith}
-use lib.Dec.{leb, eqb}
+use lib.Dec.{leb}
 use lib.ListN.{length, getD, drop, replicate}
 use lib.Seq.{drop-drop}
-use borrow.Author.Tests.{leb-true, leb-false, ne-eqb}
+use borrow.Author.Tests.{leb-true, leb-false}
 use Rattle.dcf77.specs.Reader.{readDcf77}
 use Rattle.streams.specs.Stream.{push, lastOf, windowOf, saidTo, saidBy, owedTo}
 use Rattle.streams.proofs.Window.{window-push, window-full, window-early}

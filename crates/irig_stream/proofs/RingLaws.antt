@@ -11,7 +11,7 @@ use Rattle.pulses.proofs.OutlineLaws.{outline-each, outline-mark}
 use Rattle.irig_table.specs.Table.{framePulses}
 use Rattle.irig_table.proofs.TableLaws.{frame-length}
 use Rattle.streams.specs.Stream.{push, placeOf, unrolled}
-use Rattle.streams.proofs.Ring.{place-small, place-within, unrolled-first, unrolled-place, newest, oldest, taken-pushes}
+use Rattle.streams.proofs.Ring.{place-small, unrolled-first, newest, oldest, taken-pushes}
 use Rattle.irig_stream.specs.declared.PulseReader.{PulseReader}
 use Rattle.irig_stream.specs.declared.Said.the-variants.{Nothing}
 use Rattle.irig_stream.specs.Said.{kept, filler, oldestAt, keptBy, taken, sayOf}

@@ -2,7 +2,7 @@
 use mathlib.Core.Bool.{Bool, true, false, cond}
 use mathlib.Core.List.{List, [], _∷_, _++_}
 use mathlib.Core.Path.{_≡_, refl, sym, ap, _∙_}
-use Prim.Native.Nat.{ℕ, _≤_, _<_}
+use Prim.Native.Nat.{ℕ, _≤_}
 use native.Mathlib.Omega.{arith}
 use lib.Dec.{leb}
 use lib.ListN.{length, getD, replicate}
@@ -13,7 +13,6 @@ use Rattle.streams.specs.Stream.{push, lastOf, windowOf, saidTo, saidBy, owedTo
 use Rattle.streams.proofs.Window.{window-push, window-full, window-early}
 use Rattle.streams.proofs.Runs as runs
 use Rattle.irig_stream.specs.declared.PulseReader.{PulseReader}
-use Rattle.irig_stream.specs.declared.Said.{Said}
 use Rattle.irig_stream.specs.declared.Said.the-variants.{Nothing}
 use Rattle.irig_stream.specs.Said.{kept, filler, keptBy, taken, sayOf, owed}
 use Rattle.irig_stream.proofs.RingLaws.{kept-fresh, kept-taken, taken-length, first-is-mark, lacks-mark}

@@ -1,13 +1,13 @@
 -- A ring of pulses, at any size: what one pulse more does to its window, where the window's ends stand, and how it is unrolled into a buffer.
 use mathlib.Core.Bool.{Bool, true, false, cond}
 use mathlib.Core.List.{List, [], _∷_, _++_, append-assoc, append-nil}
-use mathlib.Core.Path.{_≡_, refl, sym, ap, ap₂, _∙_}
+use mathlib.Core.Path.{_≡_, refl, sym, ap, _∙_}
 use Prim.Native.Nat.{ℕ, suc, _+_, _-_, _≤_, _<_}
 use native.Mathlib.Numerals.{add-one}
 use native.Mathlib.Omega.{arith}
 use lib.Dec.{ltb}
 use lib.ListN.{length, take, drop, set, getD, length-append, length-take, length-drop, length-set, drop-of-length-le}
-use lib.Seq.{take-all, take-suc, take-suc-set, drop-cons, drop-drop, drop-set-lt, drop-append-le, length-take-le, getD-at}
+use lib.Seq.{take-all, take-suc, take-suc-set, drop-cons, drop-set-lt, length-take-le, getD-at}
 use borrow.Author.Tests.{ltb-true, ltb-false, lt-ltb, le-ltb}
 use Rattle.wire.specs.Put.{stored}
 use Rattle.wire.proofs.StoreLaws.{stored-first, stored-behind}
@@ -32,10 +32,6 @@ place-small n next one = go (ltb next n) refl
     go false e = one
 
 -- ---- the window of a ring
-
-pub unrolled-length : (w : List ℕ) (k : ℕ) → length (unrolled w k) ≡ length w
-unfolding unrolled
-unrolled-length w k = simp (length-append, length-take, length-drop) (omega arith)
 
 pub unrolled-first : (w : List ℕ) → unrolled w 0 ≡ w
 unfolding unrolled

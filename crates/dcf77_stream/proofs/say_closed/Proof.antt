@@ -1,14 +1,10 @@
 -- `dcf77_stream::say_closed` meets its contract. Assumes nothing.
 use native.Mathlib.Omega.{arith}
 use borrow.Author.Needs.{needs}
-use mathlib.Core.Path.{_≡_, ap, _∙_}
-use mathlib.Core.List.{List}
-use Prim.Native.Nat.{ℕ, _+_, _<_}
-use lib.ListN.{length}
+use mathlib.Core.Path.{ap, _∙_}
+use Prim.Native.Nat.{_+_}
 use Rattle.reading.specs.Years.{base}
-use Rattle.streams.specs.Stream.{placeOf, unrolled}
 use Rattle.streams.proofs.Ring.{unrolled-place}
-use Rattle.dcf77_stream.specs.declared.Said.{Said}
 use Rattle.dcf77_stream.specs.Said.{kept, sayOf}
 use Rattle.dcf77_stream.proofs.RingLaws.{newest-no-gap}
 use Rattle.dcf77_stream.proofs.say_closed.Statement.{statement}

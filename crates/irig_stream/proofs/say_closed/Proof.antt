@@ -1,10 +1,10 @@
 -- `irig_stream::say_closed` meets its contract. Assumes nothing.
 use native.Mathlib.Omega.{arith}
 use borrow.Author.Needs.{needs}
-use mathlib.Core.Path.{_≡_, sym, ap, _∙_}
+use mathlib.Core.Path.{_≡_, ap, _∙_}
 use mathlib.Core.List.{List}
 use Prim.Native.Nat.{ℕ, _+_, _<_}
-use lib.ListN.{length, getD}
+use lib.ListN.{length}
 use Rattle.reading.specs.Years.{base}
 use Rattle.streams.specs.Stream.{placeOf, unrolled}
 use Rattle.streams.proofs.Ring.{unrolled-place}
