@@ -19,6 +19,12 @@ use Rattle.book.proofs.next_at.Kinds as next-kinds
 use Rattle.book.proofs.next_at.Reads as next-reads
 use Rattle.book.proofs.first.Kinds as first-kinds
 use Rattle.book.proofs.first.Reads as first-reads
+use Rattle.book.proofs.body.body_length.Kinds as body-length-kinds
+use Rattle.book.proofs.body.body_length.Reads as body-length-reads
+use Rattle.book.proofs.body.read_body.Kinds as read-body-kinds
+use Rattle.book.proofs.body.read_body.Reads as read-body-reads
+use Rattle.book.proofs.body.record_of.Kinds as record-of-kinds
+use Rattle.book.proofs.body.record_of.Reads as record-of-reads
 use Rattle.book.proofs.Walk.over as over
 use Rattle.book.proofs.Walk.turn as turn
 
@@ -48,3 +54,14 @@ over-one κs a = ((λ w. w ≡ walkOver (a .0)), ((λ M 𝓤 H A mem run g r e. 
 
 pub turn-one : Pinned turn.ended (λ M 𝓤 H A mem run. turn.clauses 𝓤 H A mem run)
 turn-one κs a = ((λ t. t ≡ turned base (a .0)), ((λ M 𝓤 H A mem run g r e. refl), λ x y p q. p ∙ sym q))
+
+-- ---- what the crate's own files call
+
+pub body-length-one : Coincide 0 body-length-kinds.ps body-length-kinds.r body-length-reads.Post
+body-length-one κs a x y e f p q = cc
+
+pub read-body-one : Coincide 1 read-body-kinds.ps read-body-kinds.r read-body-reads.Post
+read-body-one κs a x y e f p q = cc
+
+pub record-of-one : Coincide 0 record-of-kinds.ps record-of-kinds.r record-of-reads.Post
+record-of-one κs a x y e f p q = cc

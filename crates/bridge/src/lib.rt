@@ -12,8 +12,11 @@ use reading::leap::leap_window;
 use reading::universal::utc_of;
 use strings::Answer;
 ghost use mathlib.Core.Path.{_≡_};
+ghost use mathlib.Core.Bool.{_&&_};
 ghost use lib.ListN.{length};
 ghost use Rattle.reading.specs.Years.{base};
+ghost use Rattle.reading.specs.Universal.{utcOf};
+ghost use Rattle.reading.specs.Leap.{leapWindow};
 ghost use Rattle.bridge.specs.Bridge.{pendingOf, readString, bridgeAnswer, bridgeFilled};
 
 // The strings that can be carried over.
@@ -46,6 +49,16 @@ fn read_string(kind: Kind, s: &[u8]) -> Answer
     }
 }
 
+// UTC is worked out only where a leap second is announced.
+fn leap_pending(r: Reading) -> bool
+    ensures { λ b. ⌜ b ≡ (r .leap && leapWindow (utcOf r) (r .second)) ⌝ }
+{
+    if r.leap {
+        return leap_window(utc_of(r), r.second);
+    }
+    false
+}
+
 // A string announces well ahead; a frame says that something is pending in the last minute alone.
 fn pending_of(r: Reading) -> Reading
     ensures { λ p. ⌜ p ≡ pendingOf r ⌝ }
@@ -60,7 +73,7 @@ fn pending_of(r: Reading) -> Reading
         second: r.second,
         offset,
         summer: r.summer,
-        leap: r.leap & leap_window(utc_of(r), r.second),
+        leap: leap_pending(r),
         change: r.change & change_window(r.minute, r.second),
         quality: r.quality,
     }

@@ -8,6 +8,7 @@ pub mod ReadBack
 pub mod RoundTrip
 pub mod LengthLaws
 pub mod MarkLaws
+pub mod ShapeLaws
 pub mod StandIns
 pub mod Worked
 pub mod Unique

@@ -29,7 +29,7 @@ use Rattle.dcf77.proofs.ReadBack.{offset-fine, zero-fine}
 use Rattle.dcf77.proofs.RoundTrip.{bytes-read, written-reads}
 
 -- so many minutes after the hundred's first midnight
-minute-of : ℕ → ℕ → Reading
+pub minute-of : ℕ → ℕ → Reading
 minute-of base n =
     record {
       year = yearOf base 0;
@@ -50,7 +50,7 @@ module _ (base : ℕ) where
   unfolding isDate isMonth isDay lastDay daysIn minute-of
   new-year n = refl
 
-  good : (n : ℕ) → n ≤ 59 → carryFault base (minute-of base n) 0 ≡ Good
+  pub good : (n : ℕ) → n ≤ 59 → carryFault base (minute-of base n) 0 ≡ Good
   unfolding minute-of
   good n h =
       is-carried base (minute-of base n) 0
@@ -80,7 +80,7 @@ module _ (base : ℕ) where
   pub not-all-refused : ((s : List ℕ) (r : Reading) (h : ℕ) → readDcf77 base s ≡ Time r h → ⊥) → ⊥
   not-all-refused f = f (bytesOf (minute-of base 0) 0) (minute-of base 0) 0 (timed 0 (omega arith))
 
-  minute-is : (n : ℕ) → minute-of base n .minute ≡ n
+  pub minute-is : (n : ℕ) → minute-of base n .minute ≡ n
   unfolding minute-of
   minute-is n = refl
 
@@ -97,7 +97,7 @@ module _ (base : ℕ) where
   unfolding readDcf77 readFault lengthBad isLong tableFor goodPulses pulseAllowed groupOf minuteMarks sharedMarks lastMarks
   no-marks = refl
 
-  short : (n : ℕ) → lengthOf (dueLong (minute-of base n)) ≡ 60
+  pub short : (n : ℕ) → lengthOf (dueLong (minute-of base n)) ≡ 60
   unfolding lengthOf dueLong minute-of
   short n = refl
 

@@ -40,7 +40,7 @@ no-symbols [] h = refl
 no-symbols (x ∷ m) h = absurd (omega arith)
 
 -- from a place on: a gap there, and what follows
-gap-first : (w : List ℕ) (k : ℕ) → k < length w → betweenGaps (drop k w) ≡ (eqb (getD w k 0) 2 && marksThenGap (drop (suc k) w))
+pub gap-first : (w : List ℕ) (k : ℕ) → k < length w → betweenGaps (drop k w) ≡ (eqb (getD w k 0) 2 && marksThenGap (drop (suc k) w))
 unfolding betweenGaps
 gap-first w k h = rw (drop-cons w k 0 h)
 

@@ -1,25 +1,72 @@
 -- What the verdict on a string, or on what a writer is given, tells: its length, its bytes, and the reading.
-use mathlib.Core.Bool.{false, not}
+use mathlib.Core.Bool.{Bool, false, not}
 use mathlib.Core.List.{List}
-use mathlib.Core.Path.{_≡_, refl}
-use Prim.Native.Nat.{ℕ, _≤_}
+use mathlib.Core.Path.{_≡_, refl, _∙_}
+use Prim.Native.Nat.{ℕ, _≤_, _<_}
 use native.Mathlib.Omega.{arith}
 use lib.Dec.{eqb, ltb}
 use lib.ListN.{length}
-use borrow.Author.Tests.{not-false, ltb-false, le-ltb, eqb-true, eq-eqb}
+use borrow.Author.Tests.{not-false, ltb-false, lt-ltb, le-ltb, eqb-true, eq-eqb, ne-eqb}
 use Rattle.laws.proofs.Bools.{neither}
 use Rattle.wire.specs.Layout.{goodPlaces, printables}
 use Rattle.wire.proofs.LayoutLaws.{good-within, printables-within}
 use Rattle.reading.specs.declared.Reading.{Reading}
+use Rattle.reading.specs.declared.Refusal.{Refusal}
+use Rattle.reading.specs.declared.Fault.{Fault}
+use Rattle.reading.specs.declared.Fault.the-variants.{Length, Byte}
 use Rattle.reading.specs.declared.Verdict.{Verdict}
 use Rattle.reading.specs.declared.Verdict.the-variants.{Good, Bad}
+use Rattle.reading.specs.Faults.{number}
 use Rattle.reading.specs.Writing.{andThen}
 use Rattle.reading.specs.Checks.{checkedOf}
 use Rattle.reading.proofs.CheckLaws.{clash, first-good}
+use Rattle.strings.specs.declared.Answer.the-variants.{Time, No}
+use Rattle.strings.specs.Checks.{faultOf, answerOf}
 use Rattle.strings.proofs.CheckLaws.{Sound, sound, faultless}
 use Rattle.erlangen.specs.Layout.{size, positionSize, layout}
-use Rattle.erlangen.specs.Meaning.{places, weekdaySaid, offsetWrong, markWrong, readingOf, faultIn}
+use Rattle.erlangen.specs.Meaning.{places, weekdaySaid, coastingSaid, offsetWrong, markWrong, readingOf, faultIn, readErlangen}
 use Rattle.erlangen.specs.Writing.{notCarried, lengthBad, carriedOf, writeFault}
+
+-- ---- the faults of a string in their order, and the answer that goes with each
+
+module _ (base : ℕ) (s : List ℕ) where
+  pub wrong-length : (length s ≡ size → ⊥) → Bad Length ≡ faultIn base s
+  unfolding faultIn
+  wrong-length h = rw (ne-eqb (length s) size h)
+
+  pub wrong-byte : (good : ℕ) → length s ≡ size → good ≡ goodPlaces layout s → good < size → Bad (Byte good) ≡ faultIn base s
+  unfolding faultIn
+  wrong-byte good l e h = rw (eq-eqb (length s) size l, ← e, lt-ltb good size h)
+
+  pub said-last : (v : Verdict) (good : ℕ) → length s ≡ size → good ≡ goodPlaces layout s → size ≤ good
+      → v ≡ faultOf (readingOf base s) (weekdaySaid s) (offsetWrong s) (markWrong s) places → v ≡ faultIn base s
+  unfolding faultIn
+  said-last v good l e h f = f ∙ rw (eq-eqb (length s) size l, ← e, le-ltb good size h)
+
+  pub refused : (x : Fault) → Bad x ≡ faultIn base s → No (number x) ≡ readErlangen base s
+  unfolding readErlangen
+  refused x e = rw (← e)
+
+  pub answered : (v : Verdict) → v ≡ faultIn base s → answerOf v (readingOf base s) (coastingSaid s) ≡ readErlangen base s
+  unfolding readErlangen
+  answered v e = rw e
+
+  -- and back: what the answer tells of the fault
+  pub time-faultless : (r : Reading) (coasting : Bool) → readErlangen base s ≡ Time r coasting → faultIn base s ≡ Good
+  unfolding readErlangen
+  time-faultless r coasting e = go (faultIn base s) e
+    where
+      go : (v : Verdict) → answerOf v (readingOf base s) (coastingSaid s) ≡ Time r coasting → v ≡ Good
+      go Good e = refl
+      go (Bad x) e = let z : _≡_ {A = ℕ} 0 1 = cc in clash z
+
+  pub no-faulty : (n : Refusal) → readErlangen base s ≡ No n → (x : Fault) × (faultIn base s ≡ Bad x)
+  unfolding readErlangen
+  no-faulty n e = go (faultIn base s) e
+    where
+      go : (v : Verdict) → answerOf v (readingOf base s) (coastingSaid s) ≡ No n → (x : Fault) × (v ≡ Bad x)
+      go Good e = let z : _≡_ {A = ℕ} 0 1 = cc in clash z
+      go (Bad x) e = (x, refl)
 
 -- ---- a string
 

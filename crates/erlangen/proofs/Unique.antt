@@ -11,6 +11,16 @@ use Rattle.erlangen.proofs.Erlangen.write.Kinds as write-kinds
 use Rattle.erlangen.proofs.Erlangen.write.Reads as write-reads
 use Rattle.erlangen.proofs.Erlangen.position_part.Kinds as position-part-kinds
 use Rattle.erlangen.proofs.Erlangen.position_part.Reads as position-part-reads
+use Rattle.erlangen.proofs.layout.good_places.Kinds as good-places-kinds
+use Rattle.erlangen.proofs.layout.good_places.Reads as good-places-reads
+use Rattle.erlangen.proofs.offset.offset_bad.Kinds as offset-bad-kinds
+use Rattle.erlangen.proofs.offset.offset_bad.Reads as offset-bad-reads
+use Rattle.erlangen.proofs.offset.offset_of.Kinds as offset-of-kinds
+use Rattle.erlangen.proofs.offset.offset_of.Reads as offset-of-reads
+use Rattle.erlangen.proofs.offset.is_behind.Kinds as is-behind-kinds
+use Rattle.erlangen.proofs.offset.is_behind.Reads as is-behind-reads
+use Rattle.erlangen.proofs.offset.minutes_of.Kinds as minutes-of-kinds
+use Rattle.erlangen.proofs.offset.minutes_of.Reads as minutes-of-reads
 
 pub read-one : Coincide 1 read-kinds.ps read-kinds.r read-reads.Post
 read-one κs a x y e f p q = cc
@@ -24,3 +34,20 @@ pub position-part-one : (κs : Lfts 1) (a : Dens κs position-part-kinds.ps) (x 
     (e f : AtExit (endedOf 1 position-part-kinds.ps position-part-kinds.r) κs)
     → position-part-reads.Post κs a x e → position-part-reads.Post κs a y f → (now x ≡ now y) × (x .ptr ≡ y .ptr)
 position-part-one κs a x y e f p q = (cc, cc)
+
+-- ---- what the crate's own files call
+
+pub good-places-one : Coincide 1 good-places-kinds.ps good-places-kinds.r good-places-reads.Post
+good-places-one κs a x y e f p q = cc
+
+pub offset-bad-one : Coincide 0 offset-bad-kinds.ps offset-bad-kinds.r offset-bad-reads.Post
+offset-bad-one κs a x y e f p q = cc
+
+pub offset-of-one : Coincide 0 offset-of-kinds.ps offset-of-kinds.r offset-of-reads.Post
+offset-of-one κs a x y e f p q = cc
+
+pub is-behind-one : Coincide 0 is-behind-kinds.ps is-behind-kinds.r is-behind-reads.Post
+is-behind-one κs a x y e f p q = cc
+
+pub minutes-of-one : Coincide 0 minutes-of-kinds.ps minutes-of-kinds.r minutes-of-reads.Post
+minutes-of-one κs a x y e f p q = cc

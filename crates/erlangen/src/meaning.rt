@@ -6,6 +6,7 @@ use super::offset::offset_of;
 use reading::Fault;
 use reading::Reading;
 use reading::Verdict;
+use reading::faults::refusal_of;
 use reading::years::year_of;
 use strings::Answer;
 use strings::Places;
@@ -13,11 +14,13 @@ use strings::fault_of;
 use strings::told;
 use wire::digits::one_digit;
 use wire::digits::two_digits;
+use wire::layout::byte_at;
 ghost use mathlib.Core.Path.{_≡_};
 ghost use mathlib.Core.Bool.{cond};
 ghost use Prim.Native.Nat.{_+_};
 ghost use Rattle.reading.specs.Years.{base};
-ghost use Rattle.erlangen.specs.Meaning.{shows, weekdaySaid, coastingSaid, offsetWrong, markWrong, readingOf, faultIn, readErlangen, positionOf, startFor};
+ghost use Rattle.strings.specs.Checks.{faultOf};
+ghost use Rattle.erlangen.specs.Meaning.{places, shows, weekdaySaid, coastingSaid, offsetWrong, markWrong, readingOf, faultIn, readErlangen, positionOf, startFor};
 
 const PLACES: Places = Places {
     day: 1,
@@ -29,14 +32,10 @@ const PLACES: Places = Places {
     offset: 24,
 };
 
-// Past the end stands no byte that is asked for, but the definition has a 0 there.
 fn shows(s: &[u8], place: usize, byte: u8) -> bool
     ensures { λ r. ⌜ r ≡ shows (now (s .entry)) place byte ⌝ }
 {
-    if place < s.len() {
-        return s[place] == byte;
-    }
-    0 == byte
+    byte_at(s, place) == byte
 }
 
 fn weekday_said(s: &[u8]) -> u8
@@ -91,30 +90,26 @@ fn reading_of(s: &[u8]) -> Reading
     }
 }
 
-fn fault_in(s: &[u8]) -> Verdict
-    ensures { λ v. ⌜ v ≡ faultIn base (now (s .entry)) ⌝ }
+fn said_fault(s: &[u8], r: Reading) -> Verdict
+    ensures { λ v. ⌜ v ≡ faultOf r (weekdaySaid (now (s .entry))) (offsetWrong (now (s .entry))) (markWrong (now (s .entry))) places ⌝ }
 {
-    if s.len() != Erlangen::LENGTH {
-        return Verdict::Bad(Fault::Length);
-    }
-    let good = good_places(s);
-    if good < Erlangen::LENGTH {
-        return Verdict::Bad(Fault::Byte(good));
-    }
-    fault_of(
-        reading_of(s),
-        weekday_said(s),
-        offset_wrong(s),
-        mark_wrong(s),
-        PLACES,
-    )
+    fault_of(r, weekday_said(s), offset_wrong(s), mark_wrong(s), PLACES)
 }
 
 impl Erlangen {
+    // The form comes first, so that a string of another form costs no more than finding that out.
     pub fn read(s: &[u8]) -> Answer
         ensures { λ a. ⌜ a ≡ readErlangen base (now (s .entry)) ⌝ }
     {
-        told(fault_in(s), reading_of(s), coasting_said(s))
+        if s.len() != Erlangen::LENGTH {
+            return Answer::No(refusal_of(Fault::Length));
+        }
+        let good = good_places(s);
+        if good < Erlangen::LENGTH {
+            return Answer::No(refusal_of(Fault::Byte(good)));
+        }
+        let r = reading_of(s);
+        told(said_fault(s, r), r, coasting_said(s))
     }
 
     // The position bytes as a part of the caller's own string; the empty part where the string is refused.
@@ -122,9 +117,9 @@ impl Erlangen {
         ensures { λ r. ⌜ now r ≡ positionOf base (now (s .entry)) ⌝ }
         ensures { λ r. ⌜ r .ptr ≡ (s .entry .ptr .0, startFor (faultIn base (now (s .entry))) + s .entry .ptr .1) ⌝ }
     {
-        match fault_in(s) {
-            Verdict::Good => &s[41..Erlangen::LAST],
-            Verdict::Bad(_) => &s[0..0],
+        match Erlangen::read(s) {
+            Answer::Time(_, _) => &s[41..Erlangen::LAST],
+            Answer::No(_) => &s[0..0],
         }
     }
 }

@@ -1,15 +1,11 @@
 // The offset of a string: a sign, hours and minutes, and the units of a reading that they are.
 use reading::LocalMinusUtc;
+use reading::offsets::EASTMOST;
+use reading::offsets::UNIT;
+use reading::offsets::WESTMOST;
 ghost use mathlib.Core.Path.{_≡_};
 ghost use Prim.Native.Nat.{_<_};
 ghost use Rattle.erlangen.specs.Offset.{wholeUnits, unitsOf, tooFar, offsetBad, signed, offsetOf, isBehind, minutesOf};
-
-// The minutes of a unit, and the units that an offset goes west and east of UTC.
-const UNIT: u16 = 30;
-
-const WESTMOST: u16 = 24;
-
-const EASTMOST: u16 = 28;
 
 fn whole_units(minutes: u8) -> bool
     ensures { λ r. ⌜ r ≡ wholeUnits minutes ⌝ }

@@ -10,6 +10,7 @@ use borrow.Author.Tests.{eq-eqb, ne-eqb, eqb-true, lt-ltb, le-ltb, ltb-false, no
 use Rattle.reading.specs.declared.Reading.{Reading}
 use Rattle.reading.specs.declared.Verdict.{Verdict}
 use Rattle.reading.specs.declared.Verdict.the-variants.{Good, Bad}
+use Rattle.reading.specs.declared.Fault.{Fault}
 use Rattle.reading.specs.declared.Fault.the-variants.{Length, Byte}
 use Rattle.reading.specs.Faults.{number}
 use Rattle.reading.proofs.CheckLaws.{first-good, clash}
@@ -41,6 +42,15 @@ module _ (base : ℕ) (s : List ℕ) where
       → v ≡ faultOf (meaning base s) (digit (getD s (places .weekday) 0)) false false places → v ≡ faultIn base s
   unfolding faultIn
   checked-last v n h e k f = rw (eq-eqb (length s) textLength h, ← e, le-ltb n textLength k) f
+
+  -- the answer that goes with a fault, and with the last check's verdict
+  pub refused : (x : Fault) → Bad x ≡ faultIn base s → No (number x) ≡ readMeinberg base s
+  unfolding readMeinberg
+  refused x e = rw (← e)
+
+  pub answered : (v : Verdict) → v ≡ faultIn base s → answerOf v (meaning base s) (coastingIn s) ≡ readMeinberg base s
+  unfolding readMeinberg
+  answered v e = rw e
 
   -- "wrong input length"
   pub length-refused : (length s ≡ textLength → ⊥) → readMeinberg base s ≡ No (number Length)

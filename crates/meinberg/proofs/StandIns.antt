@@ -16,13 +16,10 @@ use Rattle.meinberg.specs.Layout.{textLength}
 use Rattle.meinberg.specs.Meaning.{readMeinberg}
 use Rattle.meinberg.specs.Writing.{bytesOf, writeFault}
 use Rattle.meinberg.proofs.RoundTrip.{written-reads, read-writes, read-writable}
-use Rattle.meinberg.proofs.Worked.{leapSecond, leapDay, noSuchDay, atLeapSecond, onLeapDay, worked}
+use Rattle.meinberg.proofs.Worked.{leapSecond, leapDay, noSuchDay, atLeapSecond, worked}
 
 leap-second-read : readMeinberg base leapSecond ≡ Time atLeapSecond false
 leap-second-read = cc worked
-
-leap-day-read : readMeinberg base leapDay ≡ Time onLeapDay false
-leap-day-read = cc worked
 
 no-such-day-refused : readMeinberg base noSuchDay ≡ No (record { code = 5; place = 0 })
 no-such-day-refused = cc worked

@@ -7,27 +7,17 @@ use super::zones::offset_of;
 use super::zones::summer_of;
 use reading::Fault;
 use reading::Reading;
-use reading::Verdict;
+use reading::faults::refusal_of;
 use reading::years::year_of;
 use strings::Answer;
 use strings::fault_of;
 use strings::told;
 use wire::digits::one_digit;
 use wire::digits::two_digits;
+use wire::layout::byte_at;
 ghost use mathlib.Core.Path.{_≡_};
-ghost use lib.ListN.{getD};
 ghost use Rattle.reading.specs.Years.{base};
-ghost use Rattle.meinberg.specs.Meaning.{qualityOf, coastingIn, meaning, faultIn, readMeinberg};
-
-// Past the end it is 0, which no layout allows.
-fn byte_at(s: &[u8], at: usize) -> u8
-    ensures { λ r. ⌜ r ≡ getD (now (s .entry)) at 0 ⌝ }
-{
-    if at < s.len() {
-        return s[at];
-    }
-    0
-}
+ghost use Rattle.meinberg.specs.Meaning.{qualityOf, coastingIn, meaning, readMeinberg};
 
 fn quality_of(failure: u8) -> u8
     ensures { λ r. ⌜ r ≡ qualityOf failure ⌝ }
@@ -66,29 +56,19 @@ fn meaning(s: &[u8]) -> Reading
     }
 }
 
-fn fault_in(s: &[u8], r: Reading) -> Verdict
-    requires { ⌜ r ≡ meaning base (now s) ⌝ }
-    ensures { λ v. ⌜ v ≡ faultIn base (now (s .entry)) ⌝ }
-{
-    if s.len() != LENGTH {
-        return Verdict::Bad(Fault::Length);
-    }
-    let allowed = allowed_places(s);
-    if allowed < LENGTH {
-        return Verdict::Bad(Fault::Byte(allowed));
-    }
-    fault_of(
-        r,
-        one_digit(s, layout::WEEKDAY),
-        false,
-        false,
-        field_places(),
-    )
-}
-
+// The form comes first, so that a string of another form costs no more than finding that out.
 pub fn answer_to(s: &[u8]) -> Answer
     ensures { λ a. ⌜ a ≡ readMeinberg base (now (s .entry)) ⌝ }
 {
+    if s.len() != LENGTH {
+        return Answer::No(refusal_of(Fault::Length));
+    }
+    let allowed = allowed_places(s);
+    if allowed < LENGTH {
+        return Answer::No(refusal_of(Fault::Byte(allowed)));
+    }
     let r = meaning(s);
-    told(fault_in(s, r), r, coasting_in(s))
+    let weekday = one_digit(s, layout::WEEKDAY);
+    let verdict = fault_of(r, weekday, false, false, field_places());
+    told(verdict, r, coasting_in(s))
 }

@@ -1,16 +1,16 @@
 -- The outline, place by place, and what a row in outline is.
-use mathlib.Core.Bool.{Bool, true, false, _&&_}
+use mathlib.Core.Bool.{Bool, true, false, cond, _&&_}
 use mathlib.Core.List.{List, [], _∷_}
 use mathlib.Core.Path.{_≡_, refl, sym, ap, _∙_}
-use Prim.Native.Nat.{ℕ, zero, suc, _+_, _≤_, _<_}
+use Prim.Native.Nat.{ℕ, zero, suc, _+_, _%_, _≤_, _<_}
 use native.Mathlib.Nat.{not-suc-le-zero, le-of-suc-le-suc}
 use native.Mathlib.Omega.{arith}
 use lib.Dec.{eqb, ltb}
 use lib.ListN.{length, getD, drop, drop-of-length-le}
 use lib.Seq.{drop-cons}
-use borrow.Author.Tests.{eq-eqb, eqb-true}
+use borrow.Author.Tests.{eq-eqb, eqb-true, ne-eqb, lt-ltb}
 use Rattle.laws.proofs.Bools.{both, never}
-use Rattle.pulses.specs.Row.{groupOf}
+use Rattle.pulses.specs.Row.{groupOf, byGroup, pulseOf, pulseFor, row}
 use Rattle.pulses.specs.Outline.{inOutline, outlineOf}
 
 -- the outline at place i
@@ -59,3 +59,19 @@ outline-each (x ∷ t) (b ∷ s) e (suc i) h = outline-each t s (both (inOutline
 pub outline-mark : (e b : ℕ) → groupOf e ≡ 1 → inOutline e b ≡ true → b ≡ 2
 unfolding inOutline
 outline-mark e b g h = eqb-true b 2 (rw (eq-eqb (groupOf e) 1 g) at h)
+
+-- ---- what a table lays out
+
+in-outline : (g x : ℕ) → cond (eqb g 1) (eqb (byGroup g 0 2 1 (x % 2)) 2) (ltb (byGroup g 0 2 1 (x % 2)) 2) ≡ true
+in-outline zero x = refl
+in-outline (suc zero) x = refl
+in-outline (suc (suc zero)) x = refl
+in-outline (suc (suc (suc g))) x =
+    let no-mark : suc (suc (suc g)) ≡ 1 → ⊥ = λ e. omega arith in
+    rw (ne-eqb (suc (suc (suc g))) 1 no-mark) (lt-ltb (x % 2) 2 (omega arith))
+
+-- the row that a table lays out of values has the table's outline, whatever the values are
+pub row-outline : (t v : List ℕ) → outlineOf t (row t v) ≡ true
+unfolding outlineOf row pulseFor pulseOf inOutline
+row-outline [] v = refl
+row-outline (e ∷ t) v = rw (in-outline (groupOf e)) (row-outline t v)

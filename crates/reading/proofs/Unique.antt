@@ -24,8 +24,6 @@ use Rattle.reading.proofs.leap.closes_with_leap.Kinds as closes-with-le
 use Rattle.reading.proofs.leap.closes_with_leap.Reads as closes-with-leap-reads
 use Rattle.reading.proofs.leap.leap_minute.Kinds as leap-minute-kinds
 use Rattle.reading.proofs.leap.leap_minute.Reads as leap-minute-reads
-use Rattle.reading.proofs.leap.sixty_bad.Kinds as sixty-bad-kinds
-use Rattle.reading.proofs.leap.sixty_bad.Reads as sixty-bad-reads
 use Rattle.reading.proofs.leap.leap_window.Kinds as leap-window-kinds
 use Rattle.reading.proofs.leap.leap_window.Reads as leap-window-reads
 use Rattle.reading.proofs.leap.change_window.Kinds as change-window-kinds
@@ -79,9 +77,6 @@ closes-with-leap-one κs a x y e f p q = cc
 
 pub leap-minute-one : Coincide 0 leap-minute-kinds.ps leap-minute-kinds.r leap-minute-reads.Post
 leap-minute-one κs a x y e f p q = cc
-
-pub sixty-bad-one : Coincide 0 sixty-bad-kinds.ps sixty-bad-kinds.r sixty-bad-reads.Post
-sixty-bad-one κs a x y e f p q = cc
 
 pub leap-window-one : Coincide 0 leap-window-kinds.ps leap-window-kinds.r leap-window-reads.Post
 leap-window-one κs a x y e f p q = cc

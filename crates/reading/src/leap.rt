@@ -3,7 +3,7 @@ use super::Utc;
 use calendar::Date;
 use calendar::neighbours::day_before;
 ghost use mathlib.Core.Path.{_≡_};
-ghost use Rattle.reading.specs.Leap.{closesWithLeap, leapMinute, sixtyBad, withinMinute, leapWindow, changeWindow, afterLeap};
+ghost use Rattle.reading.specs.Leap.{closesWithLeap, leapMinute, withinMinute, leapWindow, changeWindow, afterLeap};
 
 // 23:59.
 const LAST_MINUTE: u16 = 1439;
@@ -19,12 +19,6 @@ pub fn leap_minute(utc: Utc) -> bool
 {
     let date = utc.date;
     (utc.minute == LAST_MINUTE) & closes_with_leap(date)
-}
-
-pub fn sixty_bad(utc: Utc, second: u8) -> bool
-    ensures { λ r. ⌜ r ≡ sixtyBad utc second ⌝ }
-{
-    (second == 60) & !leap_minute(utc)
 }
 
 fn within_minute(second: u8) -> bool

@@ -5,9 +5,12 @@ ghost use mathlib.Core.Path.{_≡_};
 ghost use Prim.Native.Nat.{_≤_};
 ghost use Rattle.reading.specs.Offset.{west, east, offsetGood, opposite, localOf};
 
-const WESTMOST: u16 = 24;
+// The minutes of a unit of offset, and how many units an offset goes west and east of UTC.
+pub const UNIT: u16 = 30;
 
-const EASTMOST: u16 = 28;
+pub const WESTMOST: u16 = 24;
+
+pub const EASTMOST: u16 = 28;
 
 impl LocalMinusUtc {
     pub fn west(self) -> u16

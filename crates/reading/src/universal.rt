@@ -2,6 +2,7 @@
 use super::LocalMinusUtc;
 use super::Reading;
 use super::Utc;
+use super::offsets::UNIT;
 use calendar::Date;
 use calendar::neighbours::day_after;
 use calendar::neighbours::day_before;
@@ -10,8 +11,6 @@ ghost use Prim.Native.Nat.{_-_, _≤_};
 ghost use Rattle.reading.specs.Universal.{utcMinutes, onDay, utcOf};
 
 const DAY: u16 = 1440;
-
-const UNIT: u16 = 30;
 
 // What is left of `a`, at least 0.
 fn less(a: u16, b: u16) -> u16

@@ -5,7 +5,7 @@ use Prim.Native.Nat.{ℕ, _+_, _-_, _≤_, _<_}
 use native.Mathlib.Nat.{add-zero}
 use native.Mathlib.Omega.{arith}
 use lib.ListN.{length, drop, take, getD, replicate, length-append, length-replicate, getD-replicate, List·getD-append, length-drop}
-use lib.Seq.{drop-drop, drop-append-le, drop-append-add, getD-drop}
+use lib.Seq.{drop-drop, drop-append-le, drop-append-add, drop-append-seam, getD-drop}
 use Rattle.streams.specs.Stream.{push, lastOf, windowOf}
 
 module _ (n filler : ℕ) where
@@ -35,3 +35,10 @@ module _ (n filler : ℕ) where
       ∙ ap (λ (m : ℕ). getD (replicate n filler ++ h) m 0) (add-zero (length h))
       ∙ List·getD-append (replicate n filler) h 0 (length h) l
       ∙ getD-replicate n (length h) filler 0 k
+
+-- n pulses that came last are the last n, whatever came before them
+pub last-after : (n : ℕ) (h s : List ℕ) → length s ≡ n → lastOf n (h ++ s) ≡ s
+unfolding lastOf
+last-after n h s e =
+    let m : length (h ++ s) - n ≡ length h = simp length-append (omega arith) in
+    ap (λ (m : ℕ). drop m (h ++ s)) m ∙ drop-append-seam h s

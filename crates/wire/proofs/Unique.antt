@@ -7,6 +7,8 @@ use denote.Ref.{now}
 use Rattle.laws.proofs.Coincide.{Coincide}
 use Rattle.wire.proofs.layout.good_places.Reads as good-places-reads
 use Rattle.wire.proofs.layout.good_places.Kinds as good-places-kinds
+use Rattle.wire.proofs.layout.byte_at.Reads as byte-at-reads
+use Rattle.wire.proofs.layout.byte_at.Kinds as byte-at-kinds
 use Rattle.wire.proofs.layout.unprintable_at.Reads as unprintable-at-reads
 use Rattle.wire.proofs.layout.unprintable_at.Kinds as unprintable-at-kinds
 use Rattle.wire.proofs.digits.one_digit.Reads as one-digit-reads
@@ -22,6 +24,9 @@ use Rattle.wire.proofs.put.put_at.Kinds as put-at-kinds
 
 pub good-places-one : Coincide 2 good-places-kinds.ps good-places-kinds.r good-places-reads.Post
 good-places-one κs a x y e f p q = cc
+
+pub byte-at-one : Coincide 1 byte-at-kinds.ps byte-at-kinds.r byte-at-reads.Post
+byte-at-one κs a x y e f p q = cc
 
 pub unprintable-at-one : Coincide 1 unprintable-at-kinds.ps unprintable-at-kinds.r unprintable-at-reads.Post
 unprintable-at-one κs a x y e f p q = cc

@@ -2,6 +2,7 @@
 // says how.
 ghost use mathlib.Core.Path.{_≡_};
 ghost use Prim.Native.Nat.{min};
+ghost use lib.ListN.{getD};
 ghost use Rattle.wire.specs.Layout.{allowed, beside, goodPlaces, printable, printables};
 
 // Most bytes are in their entry's range, so that is asked first.
@@ -47,6 +48,16 @@ pub fn good_places(layout: &[u32], text: &[u8]) -> usize
         i += 1;
     }
     i
+}
+
+// The byte at a place; past the end it is 0, which no layout of ours allows.
+pub fn byte_at(text: &[u8], at: usize) -> u8
+    ensures { λ r. ⌜ r ≡ getD (now (text .entry)) at 0 ⌝ }
+{
+    if at < text.len() {
+        return text[at];
+    }
+    0
 }
 
 fn printable(byte: u8) -> bool

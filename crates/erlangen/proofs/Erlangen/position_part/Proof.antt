@@ -1,17 +1,17 @@
--- `erlangen::Erlangen::position_part` meets its contract. Assumes nothing.
+-- `erlangen::Erlangen::position_part` meets its contract: a time has no fault, and a refusal has one. Assumes nothing.
 use mathlib.Core.List.{List, []}
 use mathlib.Core.Path.{_≡_, refl}
 use Prim.Native.Nat.{ℕ}
 use native.Mathlib.Omega.{arith}
 use lib.ListN.{length, take, drop}
+use borrow.Author.Needs.{needs}
 use denote.Ref.{now}
 use Rattle.reading.specs.declared.Fault.{Fault}
 use Rattle.reading.specs.declared.Verdict.the-variants.{Good, Bad}
 use Rattle.reading.specs.Years.{base}
 use Rattle.erlangen.specs.Layout.{size, positionAt, positionSize}
 use Rattle.erlangen.specs.Meaning.{faultIn, positionOf, startFor}
-use Rattle.erlangen.proofs.FaultLaws.{accepted-length}
-use borrow.Author.Needs.{needs}
+use Rattle.erlangen.proofs.FaultLaws.{accepted-length, time-faultless, no-faulty}
 use Rattle.erlangen.proofs.Erlangen.position_part.Statement.{statement}
 use Rattle.erlangen.proofs.Erlangen.position_part.Tie as tie
 
@@ -24,8 +24,8 @@ module _ (s : List ℕ) where
   unfolding positionOf
   refused x e = rw e (refl, refl)
 
-fault-in-requires : tie.Need-fault-in-requires
-fault-in-requires c κs = search needs
+read-requires : tie.Need-read-requires
+read-requires c κs = search needs
 
 enum-told : tie.Need-enum-told
 enum-told c = search needs
@@ -37,7 +37,10 @@ part-result-start : tie.Need-part-result-start
 part-result-start c = search needs
 
 part-result-end : tie.Need-part-result-end
-part-result-end c = let l : length (now (c .before .before .before .before .args .s)) ≡ size = accepted-length base (now (c .before .before .before .before .args .s)) (cc) in omega arith
+part-result-end c =
+    let s = now (c .before .before .before .before .args .s) in
+    let l : length s ≡ size = accepted-length base s (time-faultless base s (c .enum-told .given .0 .0) (c .enum-told .given .0 .1 .0) (cc)) in
+    omega arith
 
 enum-told-2 : tie.Need-enum-told-2
 enum-told-2 c = search needs
@@ -52,16 +55,24 @@ part-result-end-2 : tie.Need-part-result-end-2
 part-result-end-2 c = search needs
 
 returns : tie.Need-returns
-returns c = let p = accepted (now (c .before .before .before .before .before .args .s)) (cc) in (p .0, rw (p .1))
+returns c =
+    let s = now (c .before .before .before .before .before .args .s) in
+    let t = c .before .enum-told .given .0 in
+    let p = accepted s (time-faultless base s (t .0) (t .1 .0) (cc)) in
+    (p .0, rw (p .1))
 
 returns-2 : tie.Need-returns-2
-returns-2 c = let p = refused (now (c .before .before .before .before .before .args .s)) (c .before .enum-told2 .given .0 .0) (cc) in (p .0, rw (p .1))
+returns-2 c =
+    let s = now (c .before .before .before .before .before .args .s) in
+    let x = no-faulty base s (c .before .enum-told2 .given .0 .0) (cc) in
+    let p = refused s (x .0) (x .1) in
+    (p .0, rw (p .1))
 
 pub position-part-spec : {M : Type 1} → statement M
 position-part-spec =
     tie.close
     (tie.spec
-    fault-in-requires
+    read-requires
     enum-told
     sub-result
     part-result-start
