@@ -11,15 +11,22 @@ use Rattle.reading.specs.Years.{base}
 use Rattle.streams.specs.Stream.{push, windowOf}
 use Rattle.dcf77_stream.specs.declared.PulseReader.{PulseReader}
 use Rattle.dcf77_stream.specs.declared.Stepped.{Stepped}
-use Rattle.dcf77_stream.specs.Said.{kept, filler, keptBy, sayOf, outlined, owed}
+use Rattle.dcf77_stream.specs.Said.{kept, filler, keptBy, taken, sayOf, outlined, owed}
 use Rattle.dcf77_stream.proofs.RingLaws.{kept-fresh, kept-taken, taken-length}
 use Rattle.dcf77_stream.proofs.StreamLaws.{due, windowed}
 use Rattle.dcf77_stream.proofs.answer_after.Statement.{statement}
 use Rattle.dcf77_stream.proofs.answer_after.Tie as tie
 
 -- one more of them
-turn : (ps w : List ℕ) (i : ℕ) → i < length ps → w ≡ windowOf kept filler (take i ps) → push w (getD ps i 0) ≡ windowOf kept filler (take (i + 1) ps)
-turn ps w i h e = rw (e, windowed, ← take-suc ps i 0 h, add-one)
+turn : (ps : List ℕ) (i : ℕ) (reader : PulseReader) (s : Stepped) → i < length ps → length (reader .ring) ≡ kept → keptBy reader ≡ windowOf kept filler (take i ps)
+    → s ≡ record { reader = taken reader (getD ps i 0); said = sayOf base (push (keptBy reader) (getD ps i 0)) }
+    → (length (s .reader .ring) ≡ kept) × (keptBy (s .reader) ≡ windowOf kept filler (take (i + 1) ps)) × (s .said ≡ owed base (take (i + 1) ps))
+turn ps i reader s h l w e =
+    let t : push (keptBy reader) (getD ps i 0) ≡ windowOf kept filler (take (i + 1) ps) = rw (w, windowed, ← take-suc ps i 0 h, add-one) in (
+      ap (λ (s : Stepped). length (s .reader .ring)) e ∙ taken-length reader (getD ps i 0) l,
+      ap (λ (s : Stepped). keptBy (s .reader)) e ∙ kept-taken reader (getD ps i 0) l ∙ t,
+      ap (λ (s : Stepped). s .said) e ∙ ap (sayOf base) t ∙ due base (take (i + 1) ps),
+    )
 
 abbrev Inv-loop : tie.InvT-loop
 Inv-loop symbols reader₀ said₀ i₀ reader said i = (i ≤ length symbols) × (length (reader .ring) ≡ kept) × (keptBy reader ≡ windowOf kept filler (take i symbols)) × (said ≡ owed base (take i symbols))
@@ -50,13 +57,8 @@ loop-again : tie.Need-loop-again Inv-loop μ-loop
 loop-again c =
     let l = c .before .before .before .before .loop in
     let ps = c .before .before .before .before .before .before .before .args .symbols .now in
-    let t = turn ps (keptBy (l .reader)) (l .i) (omega arith) (l .inv .2) in
-    let e = c .before .step .ensures in (
-      omega arith,
-      ap (λ (s : Stepped). length (s .reader .ring)) e ∙ taken-length (l .reader) (getD ps (l .i) 0) (l .inv .1),
-      ap (λ (s : Stepped). keptBy (s .reader)) e ∙ kept-taken (l .reader) (getD ps (l .i) 0) (l .inv .1) ∙ t,
-      ap (λ (s : Stepped). s .said) e ∙ ap (sayOf base) t ∙ due base (take (l .i + 1) ps),
-    )
+    let t = turn ps (l .i) (l .reader) (c .before .step .result) (omega arith) (l .inv .1) (l .inv .2) (c .before .step .ensures) in
+    (omega arith, t .0, t .1, t .2)
 
 returns : tie.Need-returns Inv-loop μ-loop
 returns c = let ps = c .before .before .before .before .args .symbols .now in c .before .loop .inv .3 ∙ ap (owed base) (take-all (c .before .loop .i) ps (c .loop-test .left))

@@ -16,9 +16,9 @@ use Rattle.irig_stream.proofs.say_closed.Statement.{statement}
 use Rattle.irig_stream.proofs.say_closed.Tie as tie
 
 -- the oldest stands at the place after the newest
-module _ (w : List ℕ) (newest oldest : ℕ) (l : length w ≡ kept) (h : newest < kept) (e : oldest ≡ placeOf kept (newest + 1)) where
-  told : (said : Said) → said ≡ sayOf base (unrolled w oldest) → said ≡ sayOf base (unrolled w (newest + 1))
-  told said s = s ∙ ap (sayOf base) (rw e (unrolled-place kept w (newest + 1) l (omega arith)))
+told : (w : List ℕ) (newest oldest : ℕ) (said : Said) → length w ≡ kept → newest < kept → oldest ≡ placeOf kept (newest + 1)
+    → said ≡ sayOf base (unrolled w oldest) → said ≡ sayOf base (unrolled w (newest + 1))
+told w newest oldest said l h e s = s ∙ ap (sayOf base) (rw e (unrolled-place kept w (newest + 1) l (omega arith)))
 
 shared-slice-read-if1 : tie.Need-shared-slice-read-if1
 shared-slice-read-if1 c = search needs
@@ -39,7 +39,7 @@ returns-2 : tie.Need-returns-2
 returns-2 c =
     let a = c .before .before .before .before .before .before .args in
     let p = c .before .before .place-of in
-    told (a .ring .now) (a .newest) (p .result) (omega arith) (omega arith) (p .ensures .0) Nothing
+    told (a .ring .now) (a .newest) (p .result) Nothing (omega arith) (omega arith) (p .ensures .0)
     (oldest-unmarked base (a .ring .now) (p .result) (omega arith) (omega arith) (c .if2 .taken))
 
 say-unrolled-requires : tie.Need-say-unrolled-requires
@@ -49,7 +49,7 @@ returns-3 : tie.Need-returns-3
 returns-3 c =
     let a = c .before .before .before .before .before .before .before .args in
     let p = c .before .before .before .place-of in
-    told (a .ring .now) (a .newest) (p .result) (omega arith) (omega arith) (p .ensures .0) (c .say-unrolled .result) (c .say-unrolled .ensures)
+    told (a .ring .now) (a .newest) (p .result) (c .say-unrolled .result) (omega arith) (omega arith) (p .ensures .0) (c .say-unrolled .ensures)
 
 pub say-closed-spec : {M : Type 1} → statement M
 say-closed-spec =
