@@ -2,19 +2,21 @@
 use mathlib.Core.Bool.{Bool, true, false, cond, _&&_}
 use mathlib.Core.List.{List, [], _∷_, _++_}
 use mathlib.Core.Path.{_≡_, refl, sym, ap, _∙_}
-use Prim.Native.Nat.{ℕ, _+_, _≤_, _<_}
+use Prim.Native.Nat.{ℕ, _+_, _≤_}
 use native.Mathlib.Omega.{arith}
-use lib.Dec.{leb, eqb}
+use lib.Dec.{leb}
 use lib.ListN.{length, getD, drop, replicate}
 use lib.Seq.{drop-drop}
-use borrow.Author.Tests.{leb-true, leb-false, ne-eqb}
+use borrow.Author.Tests.{leb-true, leb-false}
 use Rattle.dcf77.specs.Reader.{readDcf77}
-use Rattle.streams.specs.Stream.{push, lastOf, windowOf, saidTo, owedTo}
+use Rattle.streams.specs.Stream.{push, lastOf, windowOf, saidTo, saidBy, owedTo}
 use Rattle.streams.proofs.Window.{window-push, window-full, window-early}
 use Rattle.streams.proofs.Runs as runs
+use Rattle.dcf77_stream.specs.declared.PulseReader.{PulseReader}
 use Rattle.dcf77_stream.specs.declared.Said.{Said}
 use Rattle.dcf77_stream.specs.declared.Said.the-variants.{Nothing}
-use Rattle.dcf77_stream.specs.Said.{kept, filler, betweenGaps, saidOf, sayOf, outlined, owed}
+use Rattle.dcf77_stream.specs.Said.{kept, filler, keptBy, taken, betweenGaps, saidOf, sayOf, outlined, owed}
+use Rattle.dcf77_stream.proofs.RingLaws.{kept-fresh, kept-taken, taken-length}
 
 -- a window whose oldest is the filler has no gap there
 no-gap : (w : List ℕ) → getD w 0 0 ≡ filler → betweenGaps w ≡ false
@@ -59,3 +61,15 @@ agree-agree base = runs.alike kept filler (omega arith) (sayOf base) (owed base)
 -- one symbol more
 pub windowed : (h : List ℕ) (p : ℕ) → push (windowOf kept filler h) p ≡ windowOf kept filler (h ++ (p ∷ []))
 windowed h p = window-push kept filler h p (omega arith)
+
+-- ---- the same of readers, whose rings may begin anywhere
+
+module _ (base : ℕ) where
+  by-window : (reader : PulseReader) → length (reader .ring) ≡ kept → (symbols : List ℕ) → saidBy keptBy taken (sayOf base) reader symbols ≡ saidTo (sayOf base) (keptBy reader) symbols
+  by-window = runs.by-window keptBy taken (λ (reader : PulseReader). length (reader .ring) ≡ kept) taken-length kept-taken (sayOf base)
+
+  pub fresh-says-owed : (symbols : List ℕ) → saidBy keptBy taken (sayOf base) (record { ring = replicate kept filler; next = 0 }) symbols ≡ owedTo (owed base) [] symbols
+  fresh-says-owed symbols = by-window (record { ring = replicate kept filler; next = 0 }) refl symbols ∙ ap (λ (w : List ℕ). saidTo (sayOf base) w symbols) kept-fresh ∙ after-every-pulse base symbols
+
+  pub readers-agree : (a b : PulseReader) → length (a .ring) ≡ kept → length (b .ring) ≡ kept → keptBy a ≡ keptBy b → (symbols : List ℕ) → saidBy keptBy taken (sayOf base) a symbols ≡ saidBy keptBy taken (sayOf base) b symbols
+  readers-agree a b k l e symbols = by-window a k symbols ∙ ap (λ (w : List ℕ). saidTo (sayOf base) w symbols) e ∙ sym (by-window b l symbols)

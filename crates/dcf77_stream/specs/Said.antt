@@ -1,13 +1,14 @@
 -- What a DCF77 pulse reader says: of its last 62 symbols, and what is owed after all the symbols that came.
 use mathlib.Core.Bool.{Bool, false, cond, _&&_}
 use mathlib.Core.List.{List, [], _∷_}
-use Prim.Native.Nat.{ℕ}
+use Prim.Native.Nat.{ℕ, _+_}
 use lib.Dec.{leb, ltb, eqb}
-use lib.ListN.{length, drop}
+use lib.ListN.{length, drop, set}
 use Rattle.dcf77.specs.declared.Answer.{Answer}
 use Rattle.dcf77.specs.declared.Answer.the-variants.{Time as Told, No as Not}
 use Rattle.dcf77.specs.Reader.{readDcf77}
-use Rattle.streams.specs.Stream.{lastOf}
+use Rattle.streams.specs.Stream.{lastOf, placeOf, unrolled}
+use Rattle.dcf77_stream.specs.declared.PulseReader.{PulseReader}
 use Rattle.dcf77_stream.specs.declared.Said.{Said}
 use Rattle.dcf77_stream.specs.declared.Said.the-variants.{Time, No, Nothing}
 
@@ -18,6 +19,18 @@ kept = 62
 -- what a fresh reader is full of: no symbol
 abbrev pub filler : ℕ
 filler = 255
+
+-- the place of a reader's oldest symbol, which the next one replaces
+abbrev pub oldestAt : PulseReader → ℕ
+oldestAt reader = placeOf kept (reader .next)
+
+-- the symbols that it keeps, the oldest first
+unfoldable pub keptBy : PulseReader → List ℕ
+keptBy reader = unrolled (reader .ring) (oldestAt reader)
+
+-- the reader after one symbol more
+unfoldable pub taken : PulseReader → ℕ → PulseReader
+taken reader symbol = record { ring = set (reader .ring) (oldestAt reader) symbol; next = oldestAt reader + 1 }
 
 abbrev pub saidOf : Answer → Said
 saidOf (Told r head) = Time r head

@@ -1,16 +1,17 @@
-// The DCF77 pulse reader: it keeps the last 62 symbols, the oldest first. A fresh reader is full of a byte that is no
-// symbol, so that too few symbols are a case of no outline, and every value of its state is legal.
+// The DCF77 pulse reader: it keeps the last 62 symbols in a ring. A fresh reader is full of a byte that is no symbol, so that
+// too few symbols are a case of no outline, and every value of its state is legal.
 use dcf77::Answer;
 use dcf77::Dcf77;
 use reading::Reading;
 use reading::Refusal;
+use wire::put::put_at;
 ghost use mathlib.Core.Path.{_≡_};
-ghost use Prim.Native.Nat.{_≤_, _<_};
+ghost use Prim.Native.Nat.{_+_, _≤_, _<_};
 ghost use lib.ListN.{length, drop, replicate};
 ghost use Rattle.reading.specs.Years.{base};
 ghost use Rattle.dcf77.specs.Reader.{readDcf77};
-ghost use Rattle.streams.specs.Stream.{push};
-ghost use Rattle.dcf77_stream.specs.Said.{kept, filler, marksThenGap, betweenGaps, saidOf, sayOf, owed};
+ghost use Rattle.streams.specs.Stream.{push, placeOf, unrolled};
+ghost use Rattle.dcf77_stream.specs.Said.{kept, filler, keptBy, taken, marksThenGap, betweenGaps, saidOf, sayOf, owed};
 
 // What is said after a symbol: a time with its head, a refusal or nothing.
 pub enum Said {
@@ -19,8 +20,10 @@ pub enum Said {
     Nothing,
 }
 
+// The last 62 symbols: the next one goes to place `next` or, from 62 on, to the first; the oldest stands there.
 pub struct PulseReader {
-    pub last: [u8; 62],
+    pub ring: [u8; 62],
+    pub next: usize,
 }
 
 // The next state and the answer.
@@ -91,36 +94,62 @@ fn say(window: &[u8]) -> Said
     Said::Nothing
 }
 
-fn shifted(window: [u8; 62], symbol: u8) -> [u8; 62]
-    ensures { λ r. ⌜ r ≡ push window symbol ⌝ }
+// The place that a number stands for.
+fn place_of(next: usize) -> usize
+    ensures { λ r. ⌜ (r ≡ placeOf kept next) × (r < kept) ⌝ }
 {
-    let mut next = window;
-    let mut i = 0;
-    while i < 61 {
-        next[i] = window[i + 1];
-        i += 1;
+    if next < 62 {
+        return next;
     }
-    next[61] = symbol;
-    next
+    0
+}
+
+// What is said of a ring whose oldest symbol stands at a place.
+fn say_unrolled(ring: &[u8], oldest: usize) -> Said
+    requires { ⌜ (length (now ring) ≡ kept) × (oldest < kept) ⌝ }
+    ensures { λ r. ⌜ r ≡ sayOf base (unrolled (now (ring .entry)) oldest) ⌝ }
+{
+    let mut window = [255u8; 62];
+    put_at(&mut window, 0, &ring[oldest..]);
+    put_at(&mut window, 62 - oldest, &ring[..oldest]);
+    say(&window)
+}
+
+// What is said of a ring whose newest symbol stands at a place: nothing, unless that is a gap.
+fn say_closed(ring: &[u8], newest: usize) -> Said
+    requires { ⌜ (length (now ring) ≡ kept) × (newest < kept) ⌝ }
+    ensures { λ r. ⌜ r ≡ sayOf base (unrolled (now (ring .entry)) (newest + 1)) ⌝ }
+{
+    if ring[newest] != 2 {
+        return Said::Nothing;
+    }
+    let oldest = place_of(newest + 1);
+    say_unrolled(ring, oldest)
 }
 
 impl PulseReader {
     // A reader that has taken no symbol.
     pub fn fresh() -> Self
-        ensures { λ r. ⌜ r ≡ record { last = replicate kept filler } ⌝ }
+        ensures { λ r. ⌜ r ≡ record { ring = replicate kept filler; next = 0 } ⌝ }
     {
-        PulseReader { last: [255u8; 62] }
+        PulseReader {
+            ring: [255u8; 62],
+            next: 0,
+        }
     }
 
     // Takes one symbol, any byte.
     pub fn step(self, symbol: u8) -> Stepped
-        ensures { λ r. ⌜ r ≡ record { reader = record { last = push (self .last) symbol }; said = sayOf base (push (self .last) symbol) } ⌝ }
+        ensures { λ r. ⌜ r ≡ record { reader = taken self symbol; said = sayOf base (push (keptBy self) symbol) } ⌝ }
     {
-        let old = self.last;
-        let next = shifted(old, symbol);
-        let said = say(&next);
+        let place = place_of(self.next);
+        let old = self.ring;
+        let mut new = old;
+        new[place] = symbol;
+        let said = say_closed(&new, place);
+        let next = place + 1;
         Stepped {
-            reader: PulseReader { last: next },
+            reader: PulseReader { ring: new, next },
             said,
         }
     }

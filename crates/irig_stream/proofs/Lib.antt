@@ -1,3 +1,4 @@
+pub mod RingLaws
 pub mod StreamLaws
 pub mod FramesTold
 pub mod StandIns

@@ -1,39 +1,25 @@
 -- Demand 3 for IEEE 1344: after every pulse a fresh reader says what is owed to the pulses that came, and no damage lasts longer than a hundred pulses.
 use mathlib.Core.Bool.{Bool, true, false, cond}
 use mathlib.Core.List.{List, [], _∷_, _++_}
-use mathlib.Core.Path.{_≡_, refl, ap}
-use Prim.Native.Nat.{ℕ, _≤_, _<_}
+use mathlib.Core.Path.{_≡_, refl, sym, ap, _∙_}
+use Prim.Native.Nat.{ℕ, _≤_}
 use native.Mathlib.Omega.{arith}
-use lib.Dec.{leb, eqb}
+use lib.Dec.{leb}
 use lib.ListN.{length, getD, replicate}
 use borrow.Author.Tests.{leb-true, leb-false}
-use Rattle.pulses.specs.Row.{marks, groupOf}
-use Rattle.pulses.specs.Outline.{inOutline, outlineOf}
-use Rattle.pulses.proofs.OutlineLaws.{outlineAt, outline-each, outline-mark}
+use Rattle.pulses.specs.Outline.{outlineOf}
 use Rattle.irig_table.specs.Table.{framePulses}
-use Rattle.irig_table.proofs.TableLaws.{frame-length}
-use Rattle.streams.specs.Stream.{push, lastOf, windowOf, saidTo, owedTo}
+use Rattle.streams.specs.Stream.{push, lastOf, windowOf, saidTo, saidBy, owedTo}
 use Rattle.streams.proofs.Window.{window-push, window-full, window-early}
 use Rattle.streams.proofs.Runs as runs
-use Rattle.irig_stream.specs.declared.Said.{Said}
+use Rattle.irig_stream.specs.declared.PulseReader.{PulseReader}
 use Rattle.irig_stream.specs.declared.Said.the-variants.{Nothing}
-use Rattle.irig_stream.specs.Said.{kept, filler, sayOf, owed}
-
--- the first place of a frame is a mark
-first-is-mark : groupOf (getD framePulses 0 0) ≡ marks
-unfolding groupOf framePulses
-first-is-mark = refl
+use Rattle.irig_stream.specs.Said.{kept, filler, keptBy, taken, sayOf, owed}
+use Rattle.irig_stream.proofs.RingLaws.{kept-fresh, kept-taken, taken-length, first-is-mark, lacks-mark}
 
 -- a window whose oldest is the filler has no outline
 no-outline : (w : List ℕ) → getD w 0 0 ≡ filler → outlineOf framePulses w ≡ false
-no-outline w e = go (outlineOf framePulses w) refl
-  where
-    go : (b : Bool) → outlineOf framePulses w ≡ b → b ≡ false
-    go false k = refl
-    go true k = absurd (clash (outline-mark (getD framePulses 0 0) (getD w 0 0) first-is-mark (outline-each framePulses w k 0 (omega (arith, frame-length)))))
-      where
-        clash : getD w 0 0 ≡ 2 → ⊥
-        clash h = omega arith
+no-outline w e = lacks-mark w 0 (omega arith) first-is-mark (λ m. omega arith)
 
 by-test : (base : ℕ) (h : List ℕ) (b : Bool) → leb kept (length h) ≡ b → sayOf base (windowOf kept filler h) ≡ cond b (sayOf base (lastOf kept h)) Nothing
 unfolding sayOf
@@ -55,3 +41,15 @@ agree-agree base = runs.alike kept filler (omega arith) (sayOf base) (owed base)
 -- one pulse more
 pub windowed : (h : List ℕ) (p : ℕ) → push (windowOf kept filler h) p ≡ windowOf kept filler (h ++ (p ∷ []))
 windowed h p = window-push kept filler h p (omega arith)
+
+-- ---- the same of readers, whose rings may begin anywhere
+
+module _ (base : ℕ) where
+  by-window : (reader : PulseReader) → length (reader .ring) ≡ kept → (pulses : List ℕ) → saidBy keptBy taken (sayOf base) reader pulses ≡ saidTo (sayOf base) (keptBy reader) pulses
+  by-window = runs.by-window keptBy taken (λ (reader : PulseReader). length (reader .ring) ≡ kept) taken-length kept-taken (sayOf base)
+
+  pub fresh-says-owed : (pulses : List ℕ) → saidBy keptBy taken (sayOf base) (record { ring = replicate kept filler; next = 0 }) pulses ≡ owedTo (owed base) [] pulses
+  fresh-says-owed pulses = by-window (record { ring = replicate kept filler; next = 0 }) refl pulses ∙ ap (λ (w : List ℕ). saidTo (sayOf base) w pulses) kept-fresh ∙ after-every-pulse base pulses
+
+  pub readers-agree : (a b : PulseReader) → length (a .ring) ≡ kept → length (b .ring) ≡ kept → keptBy a ≡ keptBy b → (pulses : List ℕ) → saidBy keptBy taken (sayOf base) a pulses ≡ saidBy keptBy taken (sayOf base) b pulses
+  readers-agree a b k l e pulses = by-window a k pulses ∙ ap (λ (w : List ℕ). saidTo (sayOf base) w pulses) e ∙ sym (by-window b l pulses)

@@ -1,15 +1,16 @@
 -- What an IEEE 1344 pulse reader says: of a window of a hundred pulses, and what is owed after all the pulses that came.
 use mathlib.Core.Bool.{cond}
 use mathlib.Core.List.{List}
-use Prim.Native.Nat.{ℕ}
+use Prim.Native.Nat.{ℕ, _+_}
 use lib.Dec.{leb}
-use lib.ListN.{length}
+use lib.ListN.{length, set}
 use Rattle.pulses.specs.Outline.{outlineOf}
 use Rattle.irig_table.specs.Table.{framePulses}
 use Rattle.irig.specs.declared.Answer.{Answer}
 use Rattle.irig.specs.declared.Answer.the-variants.{Time as Told, No as Not}
 use Rattle.irig.specs.Faults.{readFrame}
-use Rattle.streams.specs.Stream.{lastOf}
+use Rattle.streams.specs.Stream.{lastOf, placeOf, unrolled}
+use Rattle.irig_stream.specs.declared.PulseReader.{PulseReader}
 use Rattle.irig_stream.specs.declared.Said.{Said}
 use Rattle.irig_stream.specs.declared.Said.the-variants.{Time, No, Nothing}
 
@@ -20,6 +21,18 @@ kept = 100
 -- what a fresh reader is full of: no pulse
 abbrev pub filler : ℕ
 filler = 255
+
+-- the place of a reader's oldest pulse, which the next one replaces
+abbrev pub oldestAt : PulseReader → ℕ
+oldestAt reader = placeOf kept (reader .next)
+
+-- the pulses that it keeps, the oldest first
+unfoldable pub keptBy : PulseReader → List ℕ
+keptBy reader = unrolled (reader .ring) (oldestAt reader)
+
+-- the reader after one pulse more
+unfoldable pub taken : PulseReader → ℕ → PulseReader
+taken reader pulse = record { ring = set (reader .ring) (oldestAt reader) pulse; next = oldestAt reader + 1 }
 
 abbrev pub saidOf : Answer → Said
 saidOf (Told r) = Time r

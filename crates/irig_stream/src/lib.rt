@@ -1,14 +1,16 @@
-// The IEEE 1344 pulse reader: it keeps the last hundred pulses, the oldest first. A fresh reader is full of a byte that is no
-// pulse, so that too few pulses are a case of no outline, and every value of its state is legal.
+// The IEEE 1344 pulse reader: it keeps the last hundred pulses in a ring. A fresh reader is full of a byte that is no pulse, so
+// that too few pulses are a case of no outline, and every value of its state is legal.
 use irig::Answer;
 use irig::Ieee1344;
 use reading::Reading;
 use reading::Refusal;
+use wire::put::put_at;
 ghost use mathlib.Core.Path.{_≡_};
-ghost use lib.ListN.{replicate};
+ghost use Prim.Native.Nat.{_+_, _<_};
+ghost use lib.ListN.{length, replicate};
 ghost use Rattle.reading.specs.Years.{base};
-ghost use Rattle.streams.specs.Stream.{push};
-ghost use Rattle.irig_stream.specs.Said.{kept, filler, saidOf, sayOf, owed};
+ghost use Rattle.streams.specs.Stream.{push, placeOf, unrolled};
+ghost use Rattle.irig_stream.specs.Said.{kept, filler, keptBy, taken, saidOf, sayOf, owed};
 
 // What is said after a pulse: a time, a refusal or nothing.
 pub enum Said {
@@ -17,8 +19,10 @@ pub enum Said {
     Nothing,
 }
 
+// The last hundred pulses: the next one goes to place `next` or, from 100 on, to the first; the oldest stands there.
 pub struct PulseReader {
-    pub last: [u8; 100],
+    pub ring: [u8; 100],
+    pub next: usize,
 }
 
 // The next state and the answer.
@@ -47,36 +51,65 @@ fn say(window: &[u8]) -> Said
     }
 }
 
-fn shifted(window: [u8; 100], pulse: u8) -> [u8; 100]
-    ensures { λ r. ⌜ r ≡ push window pulse ⌝ }
+// The place that a number stands for.
+fn place_of(next: usize) -> usize
+    ensures { λ r. ⌜ (r ≡ placeOf kept next) × (r < kept) ⌝ }
 {
-    let mut next = window;
-    let mut i = 0;
-    while i < 99 {
-        next[i] = window[i + 1];
-        i += 1;
+    if next < 100 {
+        return next;
     }
-    next[99] = pulse;
-    next
+    0
+}
+
+// What is said of a ring whose oldest pulse stands at a place.
+fn say_unrolled(ring: &[u8], oldest: usize) -> Said
+    requires { ⌜ (length (now ring) ≡ kept) × (oldest < kept) ⌝ }
+    ensures { λ r. ⌜ r ≡ sayOf base (unrolled (now (ring .entry)) oldest) ⌝ }
+{
+    let mut window = [255u8; 100];
+    put_at(&mut window, 0, &ring[oldest..]);
+    put_at(&mut window, 100 - oldest, &ring[..oldest]);
+    say(&window)
+}
+
+// What is said of a ring whose newest pulse stands at a place: nothing, unless both ends of its window are marks.
+fn say_closed(ring: &[u8], newest: usize) -> Said
+    requires { ⌜ (length (now ring) ≡ kept) × (newest < kept) ⌝ }
+    ensures { λ r. ⌜ r ≡ sayOf base (unrolled (now (ring .entry)) (newest + 1)) ⌝ }
+{
+    if ring[newest] != 2 {
+        return Said::Nothing;
+    }
+    let oldest = place_of(newest + 1);
+    if ring[oldest] != 2 {
+        return Said::Nothing;
+    }
+    say_unrolled(ring, oldest)
 }
 
 impl PulseReader {
     // A reader that has taken no pulse.
     pub fn fresh() -> Self
-        ensures { λ r. ⌜ r ≡ record { last = replicate kept filler } ⌝ }
+        ensures { λ r. ⌜ r ≡ record { ring = replicate kept filler; next = 0 } ⌝ }
     {
-        PulseReader { last: [255u8; 100] }
+        PulseReader {
+            ring: [255u8; 100],
+            next: 0,
+        }
     }
 
     // Takes one pulse, any byte.
     pub fn step(self, pulse: u8) -> Stepped
-        ensures { λ r. ⌜ r ≡ record { reader = record { last = push (self .last) pulse }; said = sayOf base (push (self .last) pulse) } ⌝ }
+        ensures { λ r. ⌜ r ≡ record { reader = taken self pulse; said = sayOf base (push (keptBy self) pulse) } ⌝ }
     {
-        let old = self.last;
-        let next = shifted(old, pulse);
-        let said = say(&next);
+        let place = place_of(self.next);
+        let old = self.ring;
+        let mut new = old;
+        new[place] = pulse;
+        let said = say_closed(&new, place);
+        let next = place + 1;
         Stepped {
-            reader: PulseReader { last: next },
+            reader: PulseReader { ring: new, next },
             said,
         }
     }

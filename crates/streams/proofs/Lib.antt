@@ -1,3 +1,3 @@
 pub mod Window
 pub mod Runs
-pub mod Shift
+pub mod Ring

@@ -1,6 +1,6 @@
 -- `dcf77_stream::say` meets its contract. Assumes nothing.
 use borrow.Author.Needs.{needs}
-use mathlib.Core.Path.{_≡_}
+use mathlib.Core.Path.{_≡_, sym, _∙_}
 use mathlib.Core.Bool.{true, false}
 use mathlib.Core.List.{List}
 use Prim.Native.Nat.{ℕ}
@@ -33,7 +33,7 @@ read-from-requires : tie.Need-read-from-requires
 read-from-requires c κs = search needs
 
 returns : tie.Need-returns
-returns c = long _ _ (cc) (cc)
+returns c = let a = c .before .before in long _ _ (sym (a .between-gaps .ensures) ∙ c .before .if1 .taken) (c .read-from .ensures)
 
 between-gaps-requires-2 : tie.Need-between-gaps-requires-2
 between-gaps-requires-2 c κs = search needs
@@ -42,10 +42,14 @@ read-from-requires-2 : tie.Need-read-from-requires-2
 read-from-requires-2 c κs = search needs
 
 returns-2 : tie.Need-returns-2
-returns-2 c = short _ _ (cc) (cc) (cc)
+returns-2 c =
+    let b = c .before .before in
+    short _ _ (sym (b .before .before .between-gaps .ensures) ∙ b .before .if1 .left) (sym (b .between-gaps2 .ensures) ∙ c .before .if2 .taken) (c .read-from2 .ensures)
 
 returns-3 : tie.Need-returns-3
-returns-3 c = silent _ (cc) (cc)
+returns-3 c =
+    let b = c .before in
+    silent _ (sym (b .before .before .between-gaps .ensures) ∙ b .before .if1 .left) (sym (b .between-gaps2 .ensures) ∙ c .if2 .left)
 
 pub say-spec : {M : Type 1} → statement M
 say-spec =

@@ -11,17 +11,25 @@ use Rattle.reading.specs.Years.{base}
 use Rattle.streams.specs.Stream.{push, windowOf}
 use Rattle.irig_stream.specs.declared.PulseReader.{PulseReader}
 use Rattle.irig_stream.specs.declared.Stepped.{Stepped}
-use Rattle.irig_stream.specs.Said.{kept, filler, sayOf, owed}
+use Rattle.irig_stream.specs.Said.{kept, filler, keptBy, taken, sayOf, owed}
+use Rattle.irig_stream.proofs.RingLaws.{kept-fresh, kept-taken, taken-length}
 use Rattle.irig_stream.proofs.StreamLaws.{due, windowed}
 use Rattle.irig_stream.proofs.answer_after.Statement.{statement}
 use Rattle.irig_stream.proofs.answer_after.Tie as tie
 
 -- one more of them
-turn : (ps w : List ℕ) (i : ℕ) → i < length ps → w ≡ windowOf kept filler (take i ps) → push w (getD ps i 0) ≡ windowOf kept filler (take (i + 1) ps)
-turn ps w i h e = rw (e, windowed, ← take-suc ps i 0 h, add-one)
+turn : (ps : List ℕ) (i : ℕ) (reader : PulseReader) (s : Stepped) → i < length ps → length (reader .ring) ≡ kept → keptBy reader ≡ windowOf kept filler (take i ps)
+    → s ≡ record { reader = taken reader (getD ps i 0); said = sayOf base (push (keptBy reader) (getD ps i 0)) }
+    → (length (s .reader .ring) ≡ kept) × (keptBy (s .reader) ≡ windowOf kept filler (take (i + 1) ps)) × (s .said ≡ owed base (take (i + 1) ps))
+turn ps i reader s h l w e =
+    let t : push (keptBy reader) (getD ps i 0) ≡ windowOf kept filler (take (i + 1) ps) = rw (w, windowed, ← take-suc ps i 0 h, add-one) in (
+      ap (λ (s : Stepped). length (s .reader .ring)) e ∙ taken-length reader (getD ps i 0) l,
+      ap (λ (s : Stepped). keptBy (s .reader)) e ∙ kept-taken reader (getD ps i 0) l ∙ t,
+      ap (λ (s : Stepped). s .said) e ∙ ap (sayOf base) t ∙ due base (take (i + 1) ps),
+    )
 
 abbrev Inv-loop : tie.InvT-loop
-Inv-loop pulses reader₀ said₀ i₀ reader said i = (i ≤ length pulses) × (reader .last ≡ windowOf kept filler (take i pulses)) × (said ≡ owed base (take i pulses))
+Inv-loop pulses reader₀ said₀ i₀ reader said i = (i ≤ length pulses) × (length (reader .ring) ≡ kept) × (keptBy reader ≡ windowOf kept filler (take i pulses)) × (said ≡ owed base (take i pulses))
 
 abbrev μ-loop : tie.MeasureT-loop
 μ-loop pulses reader₀ said₀ i₀ reader said i = length pulses - i
@@ -31,7 +39,7 @@ fresh-requires c κs = search needs
 
 loop-holds : tie.Need-loop-holds Inv-loop μ-loop
 unfolding windowOf owed
-loop-holds c = (omega arith, ap (λ (r : PulseReader). r .last) (c .fresh .ensures), refl)
+loop-holds c = (omega arith, ap (λ (r : PulseReader). length (r .ring)) (c .fresh .ensures), ap keptBy (c .fresh .ensures) ∙ kept-fresh, refl)
 
 shared-slice-read-step : tie.Need-shared-slice-read-step Inv-loop μ-loop
 shared-slice-read-step c = search needs
@@ -49,12 +57,11 @@ loop-again : tie.Need-loop-again Inv-loop μ-loop
 loop-again c =
     let l = c .before .before .before .before .loop in
     let ps = c .before .before .before .before .before .before .before .args .pulses .now in
-    let t = turn ps (l .reader .last) (l .i) (omega arith) (l .inv .1) in
-    let e = c .before .step .ensures in
-    (omega arith, ap (λ (s : Stepped). s .reader .last) e ∙ t, ap (λ (s : Stepped). s .said) e ∙ ap (sayOf base) t ∙ due base (take (l .i + 1) ps))
+    let t = turn ps (l .i) (l .reader) (c .before .step .result) (omega arith) (l .inv .1) (l .inv .2) (c .before .step .ensures) in
+    (omega arith, t .0, t .1, t .2)
 
 returns : tie.Need-returns Inv-loop μ-loop
-returns c = let ps = c .before .before .before .before .args .pulses .now in c .before .loop .inv .2 ∙ ap (owed base) (take-all (c .before .loop .i) ps (c .loop-test .left))
+returns c = let ps = c .before .before .before .before .args .pulses .now in c .before .loop .inv .3 ∙ ap (owed base) (take-all (c .before .loop .i) ps (c .loop-test .left))
 
 pub answer-after-spec : {M : Type 1} → statement M
 answer-after-spec =
