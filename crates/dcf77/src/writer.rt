@@ -16,6 +16,7 @@ use reading::Reading;
 use reading::Verdict;
 use reading::Written;
 use reading::checks::checked;
+use reading::faults::refusal_of;
 use reading::faults::written;
 ghost use mathlib.Core.Path.{_≡_};
 ghost use mathlib.Core.Bool.{false, cond};
@@ -163,6 +164,10 @@ impl Dcf77 {
         ensures { λ w. ⌜ w ≡ writtenOf (writeFault base r head (length (now (out .entry)))) (lengthOf (dueLong r)) ⌝ }
         ensures { λ w. ⌜ now (out .exit) ≡ filled (writeFault base r head (length (now (out .entry)))) (bytesOf r head) (now (out .entry)) ⌝ }
     {
+        // too few for any minute, whatever is to be written
+        if out.len() < Dcf77::LENGTH {
+            return Written::No(refusal_of(Fault::Length));
+        }
         let long = due_long(r);
         let verdict = room_fault(carry_fault(r, head), long, out.len());
         store(is_good(verdict), out, long, r, head);

@@ -1,13 +1,26 @@
 -- `dcf77::Dcf77::write` meets its contract. Assumes nothing.
+use native.Mathlib.Omega.{arith}
 use borrow.Author.Needs.{needs}
 use denote.Ref.{now}
-use mathlib.Core.Path.{_≡_}
+use mathlib.Core.Path.{_≡_, refl, ap}
 use lib.ListN.{length}
+use Rattle.reading.specs.declared.Written.the-variants.{No}
 use Rattle.reading.specs.Years.{base}
 use Rattle.dcf77.specs.Writer.{writeFault}
 use Rattle.dcf77.proofs.WriteLaws.{found, left}
+use Rattle.dcf77.proofs.LengthLaws.{too-few-bytes}
 use Rattle.dcf77.proofs.Dcf77.write.Statement.{statement}
 use Rattle.dcf77.proofs.Dcf77.write.Tie as tie
+
+refusal-of-requires : tie.Need-refusal-of-requires
+refusal-of-requires c κs = search needs
+
+returns : tie.Need-returns
+returns c =
+    let a = c .before .before .before .args in
+    let out = now (a .out) in
+    let e = too-few-bytes base (a .r) (a .head) (length out) (omega arith) in
+    rw e (ap No (c .refusal-of .ensures), refl)
 
 due-long-requires : tie.Need-due-long-requires
 due-long-requires c κs = search needs
@@ -33,10 +46,10 @@ written-requires c κs = search needs
 same-length : tie.Need-same-length
 same-length c = search needs
 
-returns : tie.Need-returns
-returns c =
+returns-2 : tie.Need-returns-2
+returns-2 c =
     let room = c .before .before .before .before .before .before .before in
-    let a = room .before .before .before .before .args in
+    let a = room .before .before .before .before .before .args in
     let out = now (a .out) in
     let verdict = room .room-fault .result in
     let v : verdict ≡ writeFault base (a .r) (a .head) (length out) =
@@ -47,6 +60,8 @@ pub write-spec : {M : Type 1} → statement M
 write-spec =
     tie.close
     (tie.spec
+    refusal-of-requires
+    returns
     due-long-requires
     carry-fault-requires
     room-fault-requires
@@ -55,4 +70,4 @@ write-spec =
     length-of-requires
     written-requires
     same-length
-    returns)
+    returns-2)
