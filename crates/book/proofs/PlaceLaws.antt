@@ -1,14 +1,38 @@
 -- The four things that can stand at a place of a book, one law for each, of the record and of the next place.
-use mathlib.Core.Path.{_≡_}
+use mathlib.Core.Bool.{Bool, true, false, cond}
+use mathlib.Core.Path.{_≡_, refl}
 use mathlib.Core.List.{List}
 use Prim.Native.Nat.{ℕ, _+_, _-_, _≤_, _<_}
+use native.Mathlib.Omega.{arith}
+use lib.Dec.{eqb}
 use lib.ListN.{length}
 use borrow.Author.Tests.{le-leb, lt-leb, lt-ltb, le-ltb, eq-eqb, ne-eqb}
 use Rattle.reading.specs.declared.Fault.the-variants.{CutShort, UnknownKind}
 use Rattle.reading.specs.Faults.{number}
 use Rattle.book.specs.declared.Record.the-variants.{Over, Refused}
-use Rattle.book.specs.Body.{readBody, recordOf}
+use Rattle.meinberg.specs.Layout.{textLength}
+use Rattle.erlangen.specs.Layout.{size}
+use Rattle.irig.specs.Faults.{frameLength}
+use Rattle.dcf77.specs.Forms.{shortLength, longLength}
+use Rattle.book.specs.Body.{bodyLength, readBody, recordOf}
 use Rattle.book.specs.Book.{kindAt, lengthAt, bodyAt, recordAt, nextAt}
+
+-- no kind fixes a body of fewer bytes than these
+abbrev pub shortestBody : ℕ
+shortestBody = textLength
+
+pub known-long : (kind : ℕ) → (bodyLength kind ≡ 0 → ⊥) → shortestBody ≤ bodyLength kind
+unfolding bodyLength
+known-long kind = go (eqb kind 1) (eqb kind 2) (eqb kind 3) (eqb kind 4) (eqb kind 5)
+  where
+    go : (a b c d e : Bool) → (_≡_ {A = ℕ} (cond a textLength (cond b size (cond c frameLength (cond d shortLength (cond e longLength 0))))) 0 → ⊥)
+        → shortestBody ≤ cond a textLength (cond b size (cond c frameLength (cond d shortLength (cond e longLength 0))))
+    go true b c d e n = omega arith
+    go false true c d e n = omega arith
+    go false false true d e n = omega arith
+    go false false false true e n = omega arith
+    go false false false false true n = omega arith
+    go false false false false false n = absurd (n refl)
 
 -- a known kind stands there, and its body is whole
 pub record Whole (b : List ℕ) (at : ℕ) : Type 0 where

@@ -1,12 +1,10 @@
 -- A buffer of `roomForAny` bytes holds the listing of every book: a record that is not the last has 33 bytes or more, and no
 -- line has more than 87.
-use mathlib.Core.Bool.{Bool, true, false, cond}
 use mathlib.Core.List.{List, [], _++_}
-use mathlib.Core.Path.{_≡_, refl, ap}
+use mathlib.Core.Path.{_≡_, ap}
 use Prim.Native.Nat.{ℕ, zero, suc, _+_, _-_, _*_, _≤_, _<_}
 use native.Mathlib.Decide.{decLe}
 use native.Mathlib.Omega.{arith}
-use lib.Dec.{eqb}
 use lib.ListN.{length, length-append}
 use borrow.Author.Tests.{le-leb, lt-leb, lt-ltb, le-ltb}
 use Rattle.reading.specs.declared.Fault.the-variants.{Length}
@@ -20,9 +18,8 @@ use Rattle.text.specs.Decimal.{decimal}
 use Rattle.text.proofs.DecimalLaws.{decimal-length}
 use Rattle.book.specs.declared.Record.{Record}
 use Rattle.book.specs.declared.Record.the-variants.{Over, Stamped, Refused}
-use Rattle.book.specs.Body.{bodyLength}
 use Rattle.book.specs.Book.{kindAt, recordAt, nextAt, records}
-use Rattle.book.proofs.PlaceLaws.{from-unknown, from-cut, from-whole}
+use Rattle.book.proofs.PlaceLaws.{known-long, from-unknown, from-cut, from-whole}
 use Rattle.book.proofs.BookLaws.{Place, beyond, strange, short, whole, place, next-inside}
 use Rattle.listing.specs.Listing.{
   field,
@@ -67,20 +64,6 @@ unfolding lineAt
 line-length at found = omega (arith, length-append (field at blank) (foundText found), field-length at blank, found-length found)
 
 -- ---- all lines
-
--- the shortest body that a kind fixes
-known-long : (kind : ℕ) → (bodyLength kind ≡ 0 → ⊥) → 32 ≤ bodyLength kind
-unfolding bodyLength
-known-long kind = go (eqb kind 1) (eqb kind 2) (eqb kind 3) (eqb kind 4) (eqb kind 5)
-  where
-    go : (a b c d e : Bool) → (_≡_ {A = ℕ} (cond a 32 (cond b 68 (cond c 100 (cond d 60 (cond e 61 0))))) 0 → ⊥)
-        → 32 ≤ cond a 32 (cond b 68 (cond c 100 (cond d 60 (cond e 61 0))))
-    go true b c d e n = omega arith
-    go false true c d e n = omega arith
-    go false false true d e n = omega arith
-    go false false false true e n = omega arith
-    go false false false false true n = omega arith
-    go false false false false false n = absurd (n refl)
 
 module _ (base : ℕ) (b : List ℕ) where
   -- the lines from a place on have no more than 87 bytes for 33 of the book, and 87 for the last record
