@@ -47,7 +47,7 @@ form-length true n e = rw e
 form-length false n e = rw e
 
 module _ (r : Reading) (head : ℕ) where
-  abbrev marksOf : List ℕ
+  abbrev pub marksOf : List ℕ
   marksOf = take (lastPlace (dueLong r)) (bytesOf r head)
 
   marks-length : length marksOf ≡ lastPlace (dueLong r)

@@ -8,22 +8,30 @@ use lib.ListN.{length, drop, replicate}
 use Rattle.streams.specs.Stream.{push, lastOf, slid, windowOf, fed, saidBy, newestOf, owedTo}
 use Rattle.streams.proofs.Window.{push-length, push-slid, slid-full, window-length, window-push}
 
--- ---- steps that give the same give the same answers
+-- ---- what is owed to all the pulses that came is what is owed after the last of them
 
-pub same-steps : {S A : Type 0} (takes gives : S → ℕ → S) (says tells : S → ℕ → A) → ((s : S) (p : ℕ) → takes s p ≡ gives s p) → ((s : S) (p : ℕ) → says s p ≡ tells s p)
-    → (s : S) (ps : List ℕ) → saidBy takes says s ps ≡ saidBy gives tells s ps
-unfolding saidBy
-same-steps takes gives says tells e f s [] = refl
-same-steps takes gives says tells e f s (p ∷ ps) =
-    ap₂ _∷_ (f s p) (same-steps takes gives says tells e f (takes s p) ps ∙ ap (λ (t : _). saidBy gives tells t ps) (e s p))
+newest-owed : {A : Type 0} (owed : List ℕ → A) (h ps : List ℕ) → newestOf (owed h) (owedTo owed h ps) ≡ owed (h ++ ps)
+unfolding newestOf owedTo
+newest-owed owed h [] = ap owed (sym (append-nil h))
+newest-owed owed h (p ∷ ps) = newest-owed owed (h ++ (p ∷ [])) ps ∙ ap owed (append-assoc h (p ∷ []) ps)
 
--- ---- what is owed to all the pulses that came is owed after the last of them
+-- ---- any step function that gives what it has to give, run pulse by pulse
 
-module _ {A : Type 0} (owed : List ℕ → A) where
-  pub newest-owed : (h ps : List ℕ) → newestOf (owed h) (owedTo owed h ps) ≡ owed (h ++ ps)
-  unfolding newestOf owedTo
-  newest-owed h [] = ap owed (sym (append-nil h))
-  newest-owed h (p ∷ ps) = newest-owed (h ++ (p ∷ [])) ps ∙ ap owed (append-assoc h (p ∷ []) ps)
+module _ {S R A : Type 0} (reader : R → S) (said : R → A) where
+  -- its answers
+  abbrev pub answersOf : (S → ℕ → R) → S → List ℕ → List A
+  answersOf step s ps = saidBy (λ s p. reader (step s p)) (λ s p. said (step s p)) s ps
+
+  module _ (step gives : S → ℕ → R) (meets : (s : S) (p : ℕ) → step s p ≡ gives s p) where
+    same-answers : (s : S) (ps : List ℕ) → answersOf step s ps ≡ answersOf gives s ps
+    unfolding saidBy
+    same-answers s [] = refl
+    same-answers s (p ∷ ps) =
+        ap₂ _∷_ (ap said (meets s p)) (same-answers (reader (step s p)) ps ∙ ap (λ (r : R). answersOf gives (reader r) ps) (meets s p))
+
+    -- where the answers that it has to give are those owed, it says after the last pulse what is owed to all that came
+    pub says-owed : (owed : List ℕ → A) (s : S) → ((ps : List ℕ) → answersOf gives s ps ≡ owedTo owed [] ps) → (ps : List ℕ) → newestOf (owed []) (answersOf step s ps) ≡ owed ps
+    says-owed owed s due ps = ap (newestOf (owed [])) (same-answers s ps ∙ due ps) ∙ newest-owed owed [] ps
 
 -- ---- a state keeps n pulses, and its next state keeps them pushed
 
