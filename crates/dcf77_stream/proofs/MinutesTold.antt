@@ -11,17 +11,18 @@ use lib.Seq.{length-take-le, getD-take}
 use borrow.Author.Tests.{lt-ltb, ltb-true, ne-eqb}
 use Rattle.laws.proofs.Bools.{both}
 use Rattle.reading.specs.declared.Reading.{Reading}
+use Rattle.reading.specs.declared.Refusal.{Refusal}
 use Rattle.reading.specs.declared.Verdict.the-variants.{Good}
 use Rattle.reading.specs.declared.Written.the-variants.{Length}
 use Rattle.reading.specs.Writing.{writtenOf, filled}
-use Rattle.dcf77.specs.declared.Answer.the-variants.{Time as Told}
+use Rattle.dcf77.specs.declared.Answer.the-variants.{Time as Told, No as Not}
 use Rattle.dcf77.specs.Forms.{lengthOf, lastOf as lastPlace, dueLong}
 use Rattle.dcf77.specs.Reader.{readDcf77}
 use Rattle.dcf77.specs.Writer.{bytesOf, carryFault, writeFault}
 use Rattle.dcf77.proofs.WriteLaws.{length-bytes}
 use Rattle.dcf77.proofs.RoundTrip.{bytes-read, read-bytes, written-reads}
 use Rattle.dcf77.proofs.ShapeLaws.{last-place, marks-small, gap-at-end}
-use Rattle.dcf77_stream.specs.declared.Said.the-variants.{Time}
+use Rattle.dcf77_stream.specs.declared.Said.the-variants.{Time, No}
 use Rattle.dcf77_stream.specs.Said.{owed}
 use Rattle.dcf77_stream.specs.Ending.{gapless, allMarks, aMinute}
 use Rattle.dcf77_stream.proofs.SinceGap.{marks-since-gap}
@@ -91,7 +92,14 @@ accepted-told base s r head e before =
     let p = read-bytes base s r head e in
     ap (λ (b : List ℕ). owed base (before ++ (2 ∷ b))) (sym (p .1)) ∙ minute-told base r head (p .0) before
 
--- and so is what the writer wrote, into any buffer
+-- what it refuses is refused, with the code and the place, where it has the outline
+pub refused-told : (base : ℕ) (m : List ℕ) (refusal : Refusal) → aMinute m ≡ true → readDcf77 base (m ++ (2 ∷ [])) ≡ Not refusal
+    → (before : List ℕ) → owed base (before ++ (2 ∷ (m ++ (2 ∷ [])))) ≡ No refusal
+unfolding aMinute
+refused-told base m refusal k e before =
+    marks-since-gap base before m (marks-gapless m (both (allMarks m) (eqb (length m) 59 || eqb (length m) 60) k .0)) ∙ rw (k, e)
+
+-- and what the writer wrote is told, from any buffer
 pub written-told : (base : ℕ) (r : Reading) (head : ℕ) (out : List ℕ) (n : ℕ) → writtenOf (writeFault base r head (length out)) (lengthOf (dueLong r)) ≡ Length n
     → (before : List ℕ) → owed base (before ++ (2 ∷ take n (filled (writeFault base r head (length out)) (bytesOf r head) out))) ≡ Time r head
 written-told base r head out n e before =

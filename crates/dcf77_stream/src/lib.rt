@@ -142,7 +142,8 @@ impl PulseReader {
     pub fn step(self, symbol: u8) -> Stepped
         ensures { λ r. ⌜ r ≡ record { reader = taken self symbol; said = sayOf base (push (keptBy self) symbol) } ⌝ }
     {
-        let place = place_of(self.next);
+        let at = self.next;
+        let place = place_of(at);
         let old = self.ring;
         let mut new = old;
         new[place] = symbol;

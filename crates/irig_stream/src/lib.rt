@@ -102,7 +102,8 @@ impl PulseReader {
     pub fn step(self, pulse: u8) -> Stepped
         ensures { λ r. ⌜ r ≡ record { reader = taken self pulse; said = sayOf base (push (keptBy self) pulse) } ⌝ }
     {
-        let place = place_of(self.next);
+        let at = self.next;
+        let place = place_of(at);
         let old = self.ring;
         let mut new = old;
         new[place] = pulse;
