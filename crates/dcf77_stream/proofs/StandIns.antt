@@ -12,10 +12,10 @@ use Rattle.dcf77.specs.Writer.{bytesOf, carryFault}
 use Rattle.dcf77.proofs.WriteLaws.{length-bytes}
 use Rattle.dcf77.proofs.ShapeLaws.{gap-at-end}
 use Rattle.dcf77.proofs.StandIns.{minute-of, good, minute-is, short}
-use Rattle.streams.specs.Stream.{newestOf}
+use Rattle.streams.specs.Stream.{answersOf, newestOf}
 use Rattle.streams.specs.StandIns.{SilentEver, RestartsAtTwos, RefusesAll, RepeatsFirst, SilentAfterFirst, SilentBefore}
 use Rattle.streams.proofs.Meets.{Meets}
-use Rattle.streams.proofs.Runs.{answersOf, says-owed}
+use Rattle.streams.proofs.Runs.{says-owed}
 use Rattle.dcf77_stream.specs.declared.PulseReader.{PulseReader}
 use Rattle.dcf77_stream.specs.declared.Said.{Said}
 use Rattle.dcf77_stream.specs.declared.Said.the-variants.{Time, Nothing}

@@ -1,6 +1,6 @@
 -- Case 8 of document 01 as a stream: after a gap, its sixty marks are told once, at the closing gap; with mark 58 cleared they are
 -- refused there, by code 4. Literal numbers throughout.
-use mathlib.Core.Bool.{true, false}
+use mathlib.Core.Bool.{false}
 use mathlib.Core.List.{List, [], _∷_, _++_}
 use mathlib.Core.Path.{_≡_, refl, ap, _∙_}
 use Prim.Native.Nat.{ℕ}

@@ -1,8 +1,8 @@
 -- Stand-ins for a pulse reader that "have to break" the contract: a fresh reader and a step function that meet the contracts of
 -- `fresh` and `step`, as the checker reads them off the source, and are run pulse by pulse, are none of them.
 use mathlib.Core.List.{List, [], _∷_, _++_}
-use mathlib.Core.Path.{_≡_, refl, sym, ap, _∙_}
-use Prim.Native.Nat.{ℕ, _<_}
+use mathlib.Core.Path.{_≡_, refl, ap, _∙_}
+use Prim.Native.Nat.{ℕ}
 use native.Mathlib.Omega.{arith}
 use lib.IntN.{pos, natAbs}
 use lib.ListN.{length, take, drop, replicate, length-drop}
@@ -14,10 +14,10 @@ use Rattle.reading.specs.Checks.{checkedOf}
 use Rattle.irig.specs.Writing.{frameOf}
 use Rattle.irig.proofs.Worked.{atOffset, at-offset-checked}
 use Rattle.irig.proofs.WriteLaws.{length-frame}
-use Rattle.streams.specs.Stream.{newestOf}
+use Rattle.streams.specs.Stream.{answersOf, newestOf}
 use Rattle.streams.specs.StandIns.{SilentEver, RestartsAtTwos, RefusesAll, RepeatsFirst, SilentAfterFirst, SilentBefore}
 use Rattle.streams.proofs.Meets.{Meets}
-use Rattle.streams.proofs.Runs.{answersOf, says-owed}
+use Rattle.streams.proofs.Runs.{says-owed}
 use Rattle.irig_stream.specs.declared.PulseReader.{PulseReader}
 use Rattle.irig_stream.specs.declared.Said.{Said}
 use Rattle.irig_stream.specs.declared.Said.the-variants.{Time, Nothing}

@@ -5,7 +5,7 @@ use mathlib.Core.Path.{_≡_, refl, sym, ap, ap₂, _∙_}
 use Prim.Native.Nat.{ℕ, suc, _-_, _≤_}
 use native.Mathlib.Omega.{arith}
 use lib.ListN.{length, drop, replicate}
-use Rattle.streams.specs.Stream.{push, lastOf, slid, windowOf, fed, saidBy, newestOf, owedTo}
+use Rattle.streams.specs.Stream.{push, lastOf, slid, windowOf, fed, saidBy, answersOf, newestOf, owedTo}
 use Rattle.streams.proofs.Window.{push-length, push-slid, slid-full, window-length, window-push}
 
 -- ---- what is owed to all the pulses that came is what is owed after the last of them
@@ -17,21 +17,16 @@ newest-owed owed h (p ∷ ps) = newest-owed owed (h ++ (p ∷ [])) ps ∙ ap owe
 
 -- ---- any step function that gives what it has to give, run pulse by pulse
 
-module _ {S R A : Type 0} (reader : R → S) (said : R → A) where
-  -- its answers
-  abbrev pub answersOf : (S → ℕ → R) → S → List ℕ → List A
-  answersOf step s ps = saidBy (λ s p. reader (step s p)) (λ s p. said (step s p)) s ps
+module _ {S R A : Type 0} (reader : R → S) (said : R → A) (step gives : S → ℕ → R) (meets : (s : S) (p : ℕ) → step s p ≡ gives s p) where
+  same-answers : (s : S) (ps : List ℕ) → answersOf reader said step s ps ≡ answersOf reader said gives s ps
+  unfolding saidBy
+  same-answers s [] = refl
+  same-answers s (p ∷ ps) =
+      ap₂ _∷_ (ap said (meets s p)) (same-answers (reader (step s p)) ps ∙ ap (λ (r : R). answersOf reader said gives (reader r) ps) (meets s p))
 
-  module _ (step gives : S → ℕ → R) (meets : (s : S) (p : ℕ) → step s p ≡ gives s p) where
-    same-answers : (s : S) (ps : List ℕ) → answersOf step s ps ≡ answersOf gives s ps
-    unfolding saidBy
-    same-answers s [] = refl
-    same-answers s (p ∷ ps) =
-        ap₂ _∷_ (ap said (meets s p)) (same-answers (reader (step s p)) ps ∙ ap (λ (r : R). answersOf gives (reader r) ps) (meets s p))
-
-    -- where the answers that it has to give are those owed, it says after the last pulse what is owed to all that came
-    pub says-owed : (owed : List ℕ → A) (s : S) → ((ps : List ℕ) → answersOf gives s ps ≡ owedTo owed [] ps) → (ps : List ℕ) → newestOf (owed []) (answersOf step s ps) ≡ owed ps
-    says-owed owed s due ps = ap (newestOf (owed [])) (same-answers s ps ∙ due ps) ∙ newest-owed owed [] ps
+  -- where the answers that it has to give are those owed, it says after the last pulse what is owed to all that came
+  pub says-owed : (owed : List ℕ → A) (s : S) → ((ps : List ℕ) → answersOf reader said gives s ps ≡ owedTo owed [] ps) → (ps : List ℕ) → newestOf (owed []) (answersOf reader said step s ps) ≡ owed ps
+  says-owed owed s due ps = ap (newestOf (owed [])) (same-answers s ps ∙ due ps) ∙ newest-owed owed [] ps
 
 -- ---- a state keeps n pulses, and its next state keeps them pushed
 

@@ -41,6 +41,10 @@ module _ {A : Type 0} where
   saidBy takes says s [] = []
   saidBy takes says s (p ∷ ps) = says s p ∷ saidBy takes says (takes s p) ps
 
+  -- the answers of a step function, whose result holds the next reader and what is said
+  abbrev pub answersOf : {S R : Type 0} → (R → S) → (R → A) → (S → ℕ → R) → S → List ℕ → List A
+  answersOf reader said step s ps = saidBy (λ s p. reader (step s p)) (λ s p. said (step s p)) s ps
+
   -- the newest of the answers, and a where there is none
   unfoldable pub newestOf : A → List A → A
   newestOf a [] = a
