@@ -1,113 +1,87 @@
 -- Every minute that the format carries is told after its closing gap, whatever symbols came before its opening gap; and the
 -- closing gap of one minute is the opening gap of the next.
-use mathlib.Core.Bool.{Bool, true, false, cond, _&&_}
+use mathlib.Core.Bool.{Bool, true, false, _||_}
 use mathlib.Core.List.{List, [], _∷_, _++_, append-assoc}
 use mathlib.Core.Path.{_≡_, refl, sym, ap, _∙_}
-use Prim.Native.Nat.{ℕ, suc, _-_, _≤_, _<_}
+use Prim.Native.Nat.{ℕ, suc, _<_}
 use native.Mathlib.Omega.{arith}
-use lib.Dec.{leb, eqb}
-use lib.ListN.{length, getD, take, drop, length-append}
-use lib.Seq.{drop-append-seam, length-take-le, getD-take}
-use borrow.Author.Tests.{le-leb, leb-true, lt-ltb, ne-eqb}
+use lib.Dec.{ltb, eqb}
+use lib.ListN.{length, getD, take}
+use lib.Seq.{length-take-le, getD-take}
+use borrow.Author.Tests.{lt-ltb, ltb-true, ne-eqb}
+use Rattle.laws.proofs.Bools.{both}
 use Rattle.reading.specs.declared.Reading.{Reading}
+use Rattle.reading.specs.declared.Refusal.{Refusal}
 use Rattle.reading.specs.declared.Verdict.the-variants.{Good}
 use Rattle.reading.specs.declared.Written.the-variants.{Length}
 use Rattle.reading.specs.Writing.{writtenOf, filled}
-use Rattle.dcf77.specs.declared.Answer.the-variants.{Time as Told}
+use Rattle.dcf77.specs.declared.Answer.the-variants.{Time as Told, No as Not}
 use Rattle.dcf77.specs.Forms.{lengthOf, lastOf as lastPlace, dueLong}
 use Rattle.dcf77.specs.Reader.{readDcf77}
 use Rattle.dcf77.specs.Writer.{bytesOf, carryFault, writeFault}
 use Rattle.dcf77.proofs.WriteLaws.{length-bytes}
 use Rattle.dcf77.proofs.RoundTrip.{bytes-read, read-bytes, written-reads}
 use Rattle.dcf77.proofs.ShapeLaws.{last-place, marks-small, gap-at-end}
-use Rattle.streams.specs.Stream.{lastOf}
-use Rattle.streams.proofs.Window.{last-after}
-use Rattle.dcf77_stream.specs.declared.Said.{Said}
-use Rattle.dcf77_stream.specs.declared.Said.the-variants.{Time, Nothing}
-use Rattle.dcf77_stream.specs.Said.{marksThenGap, betweenGaps, saidOf, outlined, owed}
-use Rattle.dcf77_stream.proofs.SymbolLaws.{gap-first}
+use Rattle.dcf77_stream.specs.declared.Said.the-variants.{Time, No}
+use Rattle.dcf77_stream.specs.Said.{owed}
+use Rattle.dcf77_stream.specs.Ending.{gapless, allMarks, aMinute}
+use Rattle.dcf77_stream.proofs.SinceGap.{marks-since-gap}
 
--- ---- a minute after a gap has the outline
+-- ---- a minute is marks of 0 or 1, as many as its form has, and then a gap
 
-marks-then : (m : List ℕ) → ((i : ℕ) → i < length m → getD m i 0 < 2) → marksThenGap (m ++ (2 ∷ [])) ≡ true
-unfolding marksThenGap
-marks-then [] small = refl
-marks-then (x ∷ m) small =
-    let some : length (m ++ (2 ∷ [])) ≡ 0 → ⊥ = λ e. omega (arith, length-append m (2 ∷ [])) in
-    rw (ne-eqb (length (m ++ (2 ∷ []))) 0 some, lt-ltb x 2 (small 0 (omega arith)))
-    (marks-then m (λ i k. small (suc i) (omega arith)))
+all-marks : (m : List ℕ) → ((i : ℕ) → i < length m → getD m i 0 < 2) → allMarks m ≡ true
+unfolding allMarks
+all-marks [] small = refl
+all-marks (x ∷ m) small = rw (lt-ltb x 2 (small 0 (omega arith))) (all-marks m (λ i k. small (suc i) (omega arith)))
 
-minute-marks : (r : Reading) (head : ℕ) → marksThenGap (bytesOf r head) ≡ true
-minute-marks r head =
-    let k = lastPlace (dueLong r) in
-    let l : length (take k (bytesOf r head)) ≡ k = length-take-le k (bytesOf r head) (omega (arith, length-bytes r head, last-place (dueLong r))) in
-    ap marksThenGap (gap-at-end r head)
-    ∙ marks-then (take k (bytesOf r head)) (λ i h. rw (getD-take k (bytesOf r head) i 0 (omega arith)) (marks-small r head i (omega arith)))
+marks-gapless : (m : List ℕ) → allMarks m ≡ true → gapless m ≡ true
+unfolding allMarks gapless
+marks-gapless [] e = refl
+marks-gapless (x ∷ m) e =
+    let p = both (ltb x 2) (allMarks m) e in
+    let l = ltb-true x 2 (p .0) in
+    rw (ne-eqb x 2 (λ k. omega arith)) (marks-gapless m (p .1))
 
-minute-outline : (r : Reading) (head : ℕ) → betweenGaps (2 ∷ bytesOf r head) ≡ true
-unfolding betweenGaps
-minute-outline r head = minute-marks r head
+form-length : (long : Bool) (n : ℕ) → n ≡ lastPlace long → (eqb n 59 || eqb n 60) ≡ true
+unfolding lastPlace
+form-length true n e = rw e
+form-length false n e = rw e
 
--- ---- a gap is no mark: 61 symbols that begin with one do not end an outline of 62
+module _ (r : Reading) (head : ℕ) where
+  abbrev pub marksOf : List ℕ
+  marksOf = take (lastPlace (dueLong r)) (bytesOf r head)
 
-gap-no-mark : (s : List ℕ) → 0 < length s → marksThenGap (2 ∷ s) ≡ false
-unfolding marksThenGap
-gap-no-mark s h = let some : length s ≡ 0 → ⊥ = λ e. omega arith in rw (ne-eqb (length s) 0 some)
+  marks-length : length marksOf ≡ lastPlace (dueLong r)
+  marks-length = length-take-le (lastPlace (dueLong r)) (bytesOf r head) (omega (arith, length-bytes r head, last-place (dueLong r)))
 
-and-false : (b : Bool) → (b && false) ≡ false
-and-false true = refl
-and-false false = refl
+  marks-are : allMarks marksOf ≡ true
+  marks-are =
+      let l = marks-length in
+      all-marks marksOf (λ i h. rw (getD-take (lastPlace (dueLong r)) (bytesOf r head) i 0 (omega arith)) (marks-small r head i (omega arith)))
 
-module _ (before s : List ℕ) (l : length s ≡ 61) (e : marksThenGap s ≡ false) where
-  no-outline : 62 ≤ length (before ++ s) → betweenGaps (lastOf 62 (before ++ s)) ≡ false
-  unfolding lastOf
-  no-outline h =
-      let n = length (before ++ s) in
-      let m : suc (n - 62) ≡ length before = omega (arith, length-append before s) in
-      let d : marksThenGap (drop (suc (n - 62)) (before ++ s)) ≡ false =
-      ap (λ (i : ℕ). marksThenGap (drop i (before ++ s))) m ∙ ap marksThenGap (drop-append-seam before s) ∙ e in
-      gap-first (before ++ s) (n - 62) (omega arith) ∙ rw (d, and-false (eqb (getD (before ++ s) (n - 62) 0) 2))
-
-  not-of-62 : outlined 62 (before ++ s) ≡ false
-  unfolding outlined
-  not-of-62 = go (leb 62 (length (before ++ s))) refl
-    where
-      go : (b : Bool) → leb 62 (length (before ++ s)) ≡ b → (b && betweenGaps (lastOf 62 (before ++ s))) ≡ false
-      go false k = refl
-      go true k = no-outline (leb-true 62 (length (before ++ s)) k)
+  marks-a-minute : aMinute marksOf ≡ true
+  unfolding aMinute
+  marks-a-minute = rw marks-are (form-length (dueLong r) (length marksOf) marks-length)
 
 -- ---- what is owed after a minute
 
 module _ (base : ℕ) (r : Reading) (head : ℕ) (good : carryFault base r head ≡ Good) where
-  abbrev minute : List ℕ
-  minute = 2 ∷ bytesOf r head
-
-  read-so : (n : ℕ) (before : List ℕ) (other : Said) → length minute ≡ n
-      → cond (outlined n (before ++ minute)) (saidOf (readDcf77 base (drop 1 (lastOf n (before ++ minute))))) other ≡ Time r head
-  unfolding outlined
-  read-so n before other l =
-      let k : n ≤ length (before ++ minute) = simp length-append (omega arith) in
-      rw (le-leb n (length (before ++ minute)) k, last-after n before minute l, minute-outline r head, bytes-read base r head good)
-
-  by-form : (long : Bool) → dueLong r ≡ long → (before : List ℕ) → owed base (before ++ minute) ≡ Time r head
-  unfolding owed lengthOf
-  by-form true e before = read-so 62 before _ (ap suc (length-bytes r head ∙ ap lengthOf e))
-  by-form false e before =
-      let l : length (bytesOf r head) ≡ 60 = length-bytes r head ∙ ap lengthOf e in
-      rw (not-of-62 before minute (ap suc l) (gap-no-mark (bytesOf r head) (omega arith))) (read-so 61 before Nothing (ap suc l))
-
   -- whatever came before its opening gap
   pub minute-told : (before : List ℕ) → owed base (before ++ (2 ∷ bytesOf r head)) ≡ Time r head
-  minute-told = by-form (dueLong r) refl
+  minute-told before =
+      let m = marksOf r head in
+      ap (λ (s : List ℕ). owed base (before ++ (2 ∷ s))) (gap-at-end r head)
+      ∙ marks-since-gap base before m (marks-gapless m (marks-are r head))
+      ∙ rw (marks-a-minute r head, ← gap-at-end r head, bytes-read base r head good)
 
   -- the closing gap of any minute serves as its opening gap
   pub gap-shared : (before : List ℕ) (q : Reading) (other : ℕ) → owed base (before ++ (bytesOf q other ++ bytesOf r head)) ≡ Time r head
   gap-shared before q other =
-      let marks = take (lastPlace (dueLong q)) (bytesOf q other) in
-      let join : bytesOf q other ++ bytesOf r head ≡ marks ++ minute =
+      let marks = marksOf q other in
+      let join : bytesOf q other ++ bytesOf r head ≡ marks ++ (2 ∷ bytesOf r head) =
       ap (λ (s : List ℕ). s ++ bytesOf r head) (gap-at-end q other) ∙ append-assoc marks (2 ∷ []) (bytesOf r head) in
       ap (λ (s : List ℕ). owed base (before ++ s)) join
-      ∙ ap (owed base) (sym (append-assoc before marks minute))
+      ∙ ap (owed base) (sym (append-assoc before marks (2 ∷ bytesOf r head)))
       ∙ minute-told (before ++ marks)
 
 -- ---- the same of the marks themselves
@@ -118,7 +92,14 @@ accepted-told base s r head e before =
     let p = read-bytes base s r head e in
     ap (λ (b : List ℕ). owed base (before ++ (2 ∷ b))) (sym (p .1)) ∙ minute-told base r head (p .0) before
 
--- and so is what the writer wrote, into any buffer
+-- what it refuses is refused, with the code and the place, where it has the outline
+pub refused-told : (base : ℕ) (m : List ℕ) (refusal : Refusal) → aMinute m ≡ true → readDcf77 base (m ++ (2 ∷ [])) ≡ Not refusal
+    → (before : List ℕ) → owed base (before ++ (2 ∷ (m ++ (2 ∷ [])))) ≡ No refusal
+unfolding aMinute
+refused-told base m refusal k e before =
+    marks-since-gap base before m (marks-gapless m (both (allMarks m) (eqb (length m) 59 || eqb (length m) 60) k .0)) ∙ rw (k, e)
+
+-- and what the writer wrote is told, from any buffer
 pub written-told : (base : ℕ) (r : Reading) (head : ℕ) (out : List ℕ) (n : ℕ) → writtenOf (writeFault base r head (length out)) (lengthOf (dueLong r)) ≡ Length n
     → (before : List ℕ) → owed base (before ++ (2 ∷ take n (filled (writeFault base r head (length out)) (bytesOf r head) out))) ≡ Time r head
 written-told base r head out n e before =

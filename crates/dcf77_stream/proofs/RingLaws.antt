@@ -1,31 +1,32 @@
 -- The ring of a DCF77 reader: what it keeps, fresh and after one symbol more, and that nothing is said where its newest is no gap.
 use mathlib.Core.Bool.{false, and-false}
 use mathlib.Core.List.{List, [], _∷_, _++_}
-use mathlib.Core.Path.{_≡_, refl}
+use mathlib.Core.Path.{_≡_, refl, sym, _∙_}
 use Prim.Native.Nat.{ℕ, _+_, _<_}
 use native.Mathlib.Omega.{arith}
 use lib.Dec.{eqb, ltb}
-use lib.ListN.{length, getD, take, drop, replicate, length-append, length-set}
+use lib.ListN.{length, getD, take, drop, replicate, length-append}
 use borrow.Author.Tests.{ne-eqb}
 use Rattle.streams.specs.Stream.{push, placeOf, unrolled}
-use Rattle.streams.proofs.Ring.{place-small, unrolled-first, unrolled-newest, taken-pushes}
+use Rattle.streams.proofs.Ring.{place-small, unrolled-length, unrolled-first, unrolled-newest, taken-pushes}
 use Rattle.dcf77_stream.specs.declared.PulseReader.{PulseReader}
 use Rattle.dcf77_stream.specs.declared.Said.the-variants.{Nothing}
-use Rattle.dcf77_stream.specs.Said.{kept, filler, oldestAt, keptBy, taken, marksThenGap, betweenGaps, sayOf}
+use Rattle.dcf77_stream.specs.Said.{kept, filler, unfed, oldestAt, keptBy, taken, marksThenGap, betweenGaps, sayOf}
 
 -- ---- what a reader keeps
 
-pub kept-fresh : keptBy (record { ring = replicate kept filler; next = 0 }) ≡ replicate kept filler
+pub kept-fresh : keptBy unfed ≡ replicate kept filler
 unfolding keptBy placeOf
 kept-fresh = unrolled-first (replicate kept filler)
 
-pub kept-taken : (reader : PulseReader) (p : ℕ) → length (reader .ring) ≡ kept → keptBy (taken reader p) ≡ push (keptBy reader) p
-unfolding keptBy taken
-kept-taken reader p l = taken-pushes kept (reader .ring) (oldestAt reader) p l (place-small kept (reader .next) (omega arith))
+pub kept-length : (reader : PulseReader) → length (keptBy reader) ≡ length (reader .ring)
+unfolding keptBy
+kept-length reader = unrolled-length (reader .ring) (oldestAt reader)
 
-pub taken-length : (reader : PulseReader) (p : ℕ) → length (reader .ring) ≡ kept → length (taken reader p .ring) ≡ kept
-unfolding taken
-taken-length reader p l = simp length-set l
+pub kept-taken : (reader : PulseReader) (p : ℕ) → length (keptBy reader) ≡ kept → keptBy (taken reader p) ≡ push (keptBy reader) p
+unfolding keptBy taken
+kept-taken reader p l =
+    taken-pushes kept (reader .ring) (oldestAt reader) p (sym (kept-length reader) ∙ l) (place-small kept (reader .next) (omega arith))
 
 -- ---- where nothing is said: symbols that end in something else than a gap
 
@@ -37,7 +38,7 @@ module _ (p : ℕ) (d : p ≡ 2 → ⊥) where
       let z : length (v ++ (p ∷ [])) ≡ 0 → ⊥ = λ e. omega (arith, length-append v (p ∷ [])) in
       rw (ne-eqb (length (v ++ (p ∷ []))) 0 z, no-gap-last v) (and-false (ltb x 2))
 
-  unclosed : (v : List ℕ) → betweenGaps (v ++ (p ∷ [])) ≡ false
+  pub unclosed : (v : List ℕ) → betweenGaps (v ++ (p ∷ [])) ≡ false
   unfolding betweenGaps
   unclosed [] = rw (ne-eqb p 2 d)
   unclosed (x ∷ v) = rw (no-gap-last v) (and-false (eqb x 2))

@@ -1,22 +1,34 @@
--- Stand-ins for a pulse reader that "have to break" the contract: an answer to all the symbols that came, which is after every
--- symbol what is owed, is none of them.
+-- Stand-ins for a pulse reader that "have to break" the contract: a fresh reader and a step function that meet the contracts of
+-- `fresh` and `step`, as the checker reads them off the source, and are run symbol by symbol, are none of them.
 use mathlib.Core.List.{List, [], _∷_, _++_}
 use mathlib.Core.Path.{_≡_, refl, ap, _∙_}
-use Prim.Native.Nat.{ℕ, _<_}
+use Prim.Native.Nat.{ℕ}
 use native.Mathlib.Omega.{arith}
-use lib.ListN.{length, take, replicate}
+use lib.ListN.{length, replicate}
 use Rattle.reading.specs.declared.Reading.{Reading}
 use Rattle.reading.specs.declared.Verdict.the-variants.{Good}
 use Rattle.reading.specs.Years.{base}
-use Rattle.dcf77.specs.Forms.{lastOf as lastPlace, dueLong}
 use Rattle.dcf77.specs.Writer.{bytesOf, carryFault}
 use Rattle.dcf77.proofs.WriteLaws.{length-bytes}
 use Rattle.dcf77.proofs.ShapeLaws.{gap-at-end}
 use Rattle.dcf77.proofs.StandIns.{minute-of, good, minute-is, short}
+use Rattle.streams.specs.Stream.{answersOf, newestOf}
+use Rattle.streams.specs.StandIns.{SilentEver, RestartsAtTwos, RefusesAll, RepeatsFirst, SilentAfterFirst, SilentBefore}
+use Rattle.streams.proofs.Meets.{Meets}
+use Rattle.streams.proofs.Runs.{says-owed}
+use Rattle.dcf77_stream.specs.declared.PulseReader.{PulseReader}
 use Rattle.dcf77_stream.specs.declared.Said.{Said}
 use Rattle.dcf77_stream.specs.declared.Said.the-variants.{Time, Nothing}
-use Rattle.dcf77_stream.specs.Said.{outlined, owed}
-use Rattle.dcf77_stream.proofs.MinutesTold.{minute-told, gap-shared}
+use Rattle.dcf77_stream.specs.declared.Stepped.{Stepped}
+use Rattle.dcf77_stream.specs.Said.{unfed, outlined, owed, answers}
+use Rattle.dcf77_stream.specs.Ending.{gapless}
+use Rattle.dcf77_stream.proofs.StreamLaws.{fresh-says-owed}
+use Rattle.dcf77_stream.proofs.SinceGap.{nothing-at-first-gap}
+use Rattle.dcf77_stream.proofs.MinutesTold.{marksOf, minute-told, gap-shared}
+use Rattle.dcf77_stream.proofs.PulseReader.fresh.Kinds as fresh-kinds
+use Rattle.dcf77_stream.proofs.PulseReader.fresh.Reads as fresh-reads
+use Rattle.dcf77_stream.proofs.PulseReader.step.Kinds as step-kinds
+use Rattle.dcf77_stream.proofs.PulseReader.step.Reads as step-reads
 
 -- two times that differ: the first minutes of 2000
 abbrev first : Reading
@@ -41,63 +53,63 @@ length-second = length-bytes second 0 ∙ short base 1
 abbrev stray : List ℕ
 stray = 2 ∷ replicate 30 0
 
-too-few : owed base (2 ∷ []) ≡ Nothing
-unfolding owed outlined
-too-few = refl
+-- the answer is the time r, with some head
+abbrev pub Tells : Said → Reading → Type 0
+Tells said r = (head : ℕ) × (said ≡ Time r head)
 
-module _ (answer : List ℕ → Said) (meets : (symbols : List ℕ) → answer symbols ≡ owed base symbols) where
-  first-told : answer (2 ∷ bytesOf first 0) ≡ Time first 0
-  first-told = meets (2 ∷ bytesOf first 0) ∙ minute-told base first 0 first-good []
+never-both : {said : Said} {r : Reading} → Tells said r → said ≡ Nothing → ⊥
+never-both t n =
+    let e = t .1 in
+    let z : _≡_ {A = ℕ} 0 1 = cc in
+    omega arith
+
+too-few : owed base (2 ∷ []) ≡ Nothing
+unfolding gapless
+too-few = nothing-at-first-gap base [] refl
+
+-- what a step function says after the last of the symbols that a reader is fed one by one; nothing where none came
+abbrev pub answerBy : PulseReader → (PulseReader → ℕ → Stepped) → List ℕ → Said
+answerBy fresh step symbols = newestOf Nothing (answersOf (λ s. s .reader) (λ s. s .said) step fresh symbols)
+
+module _ (fresh : PulseReader) (step : PulseReader → ℕ → Stepped)
+    (starts : Meets 0 fresh-kinds.ps fresh-kinds.r fresh-reads.Post (λ κs a. fresh))
+    (steps : Meets 0 step-kinds.ps step-kinds.r step-reads.Post (λ κs a. step (a .0) (a .1 .0))) where
+  meets : (symbols : List ℕ) → answerBy fresh step symbols ≡ owed base symbols
+  unfolding answers owed outlined
+  meets symbols =
+      ap (λ (reader : PulseReader). answerBy reader step symbols) (starts tt tt tt)
+      ∙ says-owed (λ s. s .reader) (λ s. s .said) step _ (λ reader symbol. steps tt (reader, (symbol, tt)) (reader, (symbol, tt))) (owed base) unfed (fresh-says-owed base) symbols
+
+  first-told : Tells (answerBy fresh step (2 ∷ bytesOf first 0)) first
+  first-told = (0, meets (2 ∷ bytesOf first 0) ∙ minute-told base first 0 first-good [])
 
   -- the minute after it, whose opening gap is its closing one
-  second-told : answer ((2 ∷ bytesOf first 0) ++ bytesOf second 0) ≡ Time second 0
-  second-told = meets ((2 ∷ bytesOf first 0) ++ bytesOf second 0) ∙ gap-shared base second 0 second-good (2 ∷ []) first 0
+  second-told : Tells (answerBy fresh step ((2 ∷ bytesOf first 0) ++ bytesOf second 0)) second
+  second-told = (0, meets ((2 ∷ bytesOf first 0) ++ bytesOf second 0) ∙ gap-shared base second 0 second-good (2 ∷ []) first 0)
 
-  -- it says nothing, whatever comes
-  pub silent-ever : ((symbols : List ℕ) → answer symbols ≡ Nothing) → ⊥
-  silent-ever silent =
-      let s = silent (2 ∷ bytesOf first 0) in
-      let t = first-told in
-      let z : _≡_ {A = ℕ} 0 1 = cc in
-      omega arith
+  pub silent-ever : SilentEver (answerBy fresh step) Nothing → ⊥
+  silent-ever silent = never-both first-told (silent (2 ∷ bytesOf first 0))
 
-  -- it refuses whatever it speaks of
-  pub refuses-all : ((symbols : List ℕ) (r : Reading) (head : ℕ) → answer symbols ≡ Time r head → ⊥) → ⊥
-  refuses-all none = none (2 ∷ bytesOf first 0) first 0 first-told
+  pub refuses-all : RefusesAll (answerBy fresh step) Tells → ⊥
+  refuses-all none = none (2 ∷ bytesOf first 0) first first-told
 
-  -- "decodes its first frame and then repeats it": after a time it tells no other
-  pub repeats-first :
-      ((symbols more : List ℕ) (r q : Reading) (a b : ℕ) → answer symbols ≡ Time r a → answer (symbols ++ more) ≡ Time q b → q ≡ r) → ⊥
-  repeats-first same = different (same (2 ∷ bytesOf first 0) (bytesOf second 0) first second 0 0 first-told second-told)
+  pub repeats-first : RepeatsFirst (answerBy fresh step) Tells → ⊥
+  repeats-first same = different (same (2 ∷ bytesOf first 0) (bytesOf second 0) first second first-told second-told)
 
-  -- "or stays silent": after a time it tells none
-  pub silent-after-first :
-      ((symbols more : List ℕ) (r q : Reading) (a b : ℕ) → answer symbols ≡ Time r a → 0 < length more → answer (symbols ++ more) ≡ Time q b → ⊥)
-      → ⊥
-  silent-after-first none =
-      none (2 ∷ bytesOf first 0) (bytesOf second 0) first second 0 0 first-told (omega (arith, length-second)) second-told
+  pub silent-after-first : SilentAfterFirst (answerBy fresh step) Tells → ⊥
+  silent-after-first none = none (2 ∷ bytesOf first 0) (bytesOf second 0) first second first-told (omega (arith, length-second)) second-told
 
-  -- "Dropping the closing mark": the gap that closes a minute does not open the next, so that after a time it tells none before a
-  -- gap and a whole minute more have come
-  pub drops-closing-gap :
-      ((symbols more : List ℕ) (r q : Reading) (a b : ℕ) → answer symbols ≡ Time r a → 0 < length more → length more < 61 → answer (symbols ++ more) ≡ Time q b → ⊥)
-      → ⊥
+  -- the gap that closes a minute does not open the next: none before a gap and a whole minute more have come
+  pub drops-closing-gap : SilentBefore (answerBy fresh step) Tells 61 → ⊥
   drops-closing-gap none =
-      none (2 ∷ bytesOf first 0) (bytesOf second 0) first second 0 0 first-told (omega (arith, length-second)) (omega (arith, length-second)) second-told
+      none (2 ∷ bytesOf first 0) (bytesOf second 0) first second first-told (omega (arith, length-second)) (omega (arith, length-second)) second-told
 
-  -- "Restarting at each mark", here at each gap: what it says goes by the symbols from a gap on, whatever came before that gap
-  pub restarts-at-gaps : ((before after : List ℕ) → answer (before ++ (2 ∷ after)) ≡ answer (2 ∷ after)) → ⊥
+  -- here at each gap
+  pub restarts-at-gaps : RestartsAtTwos (answerBy fresh step) → ⊥
   restarts-at-gaps forgets =
-      let marks = take (lastPlace (dueLong first)) (bytesOf first 0) in
-      let f = ap (λ (s : List ℕ). answer (2 ∷ s)) (gap-at-end first 0) ∙ forgets (2 ∷ marks) [] ∙ meets (2 ∷ []) ∙ too-few in
-      let t = first-told in
-      let z : _≡_ {A = ℕ} 0 1 = cc in
-      omega arith
+      never-both first-told
+      (ap (λ (s : List ℕ). answerBy fresh step (2 ∷ s)) (gap-at-end first 0) ∙ forgets (2 ∷ marksOf first 0) [] ∙ meets (2 ∷ []) ∙ too-few)
 
   -- a stray gap makes it miss the minute that comes after it
-  pub misses-after-stray-gap : ((r : Reading) (head : ℕ) → answer (stray ++ (2 ∷ bytesOf r head)) ≡ Nothing) → ⊥
-  misses-after-stray-gap misses =
-      let m = misses first 0 in
-      let t = meets (stray ++ (2 ∷ bytesOf first 0)) ∙ minute-told base first 0 first-good stray in
-      let z : _≡_ {A = ℕ} 0 1 = cc in
-      omega arith
+  pub misses-after-stray-gap : ((r : Reading) (head : ℕ) → answerBy fresh step (stray ++ (2 ∷ bytesOf r head)) ≡ Nothing) → ⊥
+  misses-after-stray-gap misses = never-both (0, meets (stray ++ (2 ∷ bytesOf first 0)) ∙ minute-told base first 0 first-good stray) (misses first 0)

@@ -2,21 +2,21 @@
 use mathlib.Core.Bool.{Bool, true, false, cond, _&&_}
 use mathlib.Core.List.{List, [], _∷_, _++_}
 use mathlib.Core.Path.{_≡_, refl, sym, ap, _∙_}
-use Prim.Native.Nat.{ℕ, _+_, _≤_}
+use Prim.Native.Nat.{ℕ, _+_, _-_, _≤_}
 use native.Mathlib.Omega.{arith}
 use lib.Dec.{leb}
 use lib.ListN.{length, getD, drop, replicate}
 use lib.Seq.{drop-drop}
 use borrow.Author.Tests.{leb-true, leb-false}
 use Rattle.dcf77.specs.Reader.{readDcf77}
-use Rattle.streams.specs.Stream.{push, lastOf, windowOf, saidTo, saidBy, owedTo}
+use Rattle.streams.specs.Stream.{push, lastOf, windowOf, fed, saidBy, owedTo}
 use Rattle.streams.proofs.Window.{window-push, window-full, window-early}
 use Rattle.streams.proofs.Runs as runs
 use Rattle.dcf77_stream.specs.declared.PulseReader.{PulseReader}
 use Rattle.dcf77_stream.specs.declared.Said.{Said}
 use Rattle.dcf77_stream.specs.declared.Said.the-variants.{Nothing}
-use Rattle.dcf77_stream.specs.Said.{kept, filler, keptBy, taken, betweenGaps, saidOf, sayOf, outlined, owed}
-use Rattle.dcf77_stream.proofs.RingLaws.{kept-fresh, kept-taken, taken-length}
+use Rattle.dcf77_stream.specs.Said.{kept, filler, unfed, keptBy, taken, betweenGaps, saidOf, sayOf, outlined, owed, answers}
+use Rattle.dcf77_stream.proofs.RingLaws.{kept-fresh, kept-length, kept-taken}
 
 -- a window whose oldest is the filler has no gap there
 no-gap : (w : List ℕ) → getD w 0 0 ≡ filler → betweenGaps w ≡ false
@@ -50,26 +50,30 @@ due base h =
     ap (λ (y : Said). cond (betweenGaps (windowOf 62 filler h)) (saidOf (readDcf77 base (drop 1 (windowOf 62 filler h)))) y) (in-the-last-61 base h)
     ∙ reads-as base 62 h _ (leb 62 (length h)) refl
 
--- after every symbol of every stream
-pub after-every-pulse : (base : ℕ) (symbols : List ℕ) → saidTo (sayOf base) (replicate kept filler) symbols ≡ owedTo (owed base) [] symbols
-after-every-pulse base = runs.run kept filler (omega arith) (sayOf base) (owed base) (due base)
-
--- "or last sixty-two symbols for DCF77": two readers whose last symbols agree say the same from then on while they are fed alike
-pub agree-agree : (base : ℕ) (g h : List ℕ) → kept ≤ length g → kept ≤ length h → lastOf kept g ≡ lastOf kept h → (symbols : List ℕ) → owedTo (owed base) g symbols ≡ owedTo (owed base) h symbols
-agree-agree base = runs.alike kept filler (omega arith) (sayOf base) (owed base) (due base)
-
 -- one symbol more
 pub windowed : (h : List ℕ) (p : ℕ) → push (windowOf kept filler h) p ≡ windowOf kept filler (h ++ (p ∷ []))
 windowed h p = window-push kept filler h p (omega arith)
 
--- ---- the same of readers, whose rings may begin anywhere
+-- once so many symbols have come, a reader keeps the last of them, whatever it kept before
+pub keeps-last : (reader : PulseReader) → length (reader .ring) ≡ kept → (symbols : List ℕ) → kept ≤ length symbols → keptBy (fed taken reader symbols) ≡ lastOf kept symbols
+keeps-last reader l symbols k = runs.keeps-last kept (omega arith) keptBy taken kept-taken reader symbols (kept-length reader ∙ l) k
 
 module _ (base : ℕ) where
-  by-window : (reader : PulseReader) → length (reader .ring) ≡ kept → (symbols : List ℕ) → saidBy keptBy taken (sayOf base) reader symbols ≡ saidTo (sayOf base) (keptBy reader) symbols
-  by-window = runs.by-window keptBy taken (λ (reader : PulseReader). length (reader .ring) ≡ kept) taken-length kept-taken (sayOf base)
+  -- after every symbol of every stream
+  pub fresh-says-owed : (symbols : List ℕ) → answers base symbols ≡ owedTo (owed base) [] symbols
+  unfolding answers
+  fresh-says-owed = runs.run kept (omega arith) keptBy taken kept-taken (sayOf base) filler (owed base) (due base) unfed kept-fresh
 
-  pub fresh-says-owed : (symbols : List ℕ) → saidBy keptBy taken (sayOf base) (record { ring = replicate kept filler; next = 0 }) symbols ≡ owedTo (owed base) [] symbols
-  fresh-says-owed symbols = by-window (record { ring = replicate kept filler; next = 0 }) refl symbols ∙ ap (λ (w : List ℕ). saidTo (sayOf base) w symbols) kept-fresh ∙ after-every-pulse base symbols
+  -- any two readers, whatever states they were in when they were fed g and h
+  pub any-two-readers : (a b : PulseReader) → length (a .ring) ≡ kept → length (b .ring) ≡ kept
+      → (g h : List ℕ) → kept ≤ length g → kept ≤ length h → lastOf kept g ≡ lastOf kept h → (symbols : List ℕ)
+      → drop (length g - 1) (saidBy taken (λ reader p. sayOf base (push (keptBy reader) p)) a (g ++ symbols))
+      ≡ drop (length h - 1) (saidBy taken (λ reader p. sayOf base (push (keptBy reader) p)) b (h ++ symbols))
+  any-two-readers a b k l =
+      runs.two-readers kept (omega arith) keptBy taken kept-taken (sayOf base) a b (kept-length a ∙ k) (kept-length b ∙ l)
 
-  pub readers-agree : (a b : PulseReader) → length (a .ring) ≡ kept → length (b .ring) ≡ kept → keptBy a ≡ keptBy b → (symbols : List ℕ) → saidBy keptBy taken (sayOf base) a symbols ≡ saidBy keptBy taken (sayOf base) b symbols
-  readers-agree a b k l e symbols = by-window a k symbols ∙ ap (λ (w : List ℕ). saidTo (sayOf base) w symbols) e ∙ sym (by-window b l symbols)
+  -- "or last sixty-two symbols for DCF77": from the answer to the last symbol of each on, all is the same
+  pub two-readers : (g h : List ℕ) → kept ≤ length g → kept ≤ length h → lastOf kept g ≡ lastOf kept h → (symbols : List ℕ)
+      → drop (length g - 1) (answers base (g ++ symbols)) ≡ drop (length h - 1) (answers base (h ++ symbols))
+  unfolding answers
+  two-readers = any-two-readers unfed unfed refl refl

@@ -3,11 +3,11 @@ use mathlib.Core.Bool.{Bool, false, cond, _&&_}
 use mathlib.Core.List.{List, [], _∷_}
 use Prim.Native.Nat.{ℕ, _+_}
 use lib.Dec.{leb, ltb, eqb}
-use lib.ListN.{length, drop, set}
+use lib.ListN.{length, drop, set, replicate}
 use Rattle.dcf77.specs.declared.Answer.{Answer}
 use Rattle.dcf77.specs.declared.Answer.the-variants.{Time as Told, No as Not}
 use Rattle.dcf77.specs.Reader.{readDcf77}
-use Rattle.streams.specs.Stream.{lastOf, placeOf, unrolled}
+use Rattle.streams.specs.Stream.{push, lastOf, placeOf, unrolled, saidBy}
 use Rattle.dcf77_stream.specs.declared.PulseReader.{PulseReader}
 use Rattle.dcf77_stream.specs.declared.Said.{Said}
 use Rattle.dcf77_stream.specs.declared.Said.the-variants.{Time, No, Nothing}
@@ -19,6 +19,10 @@ kept = 62
 -- what a fresh reader is full of: no symbol
 abbrev pub filler : ℕ
 filler = 255
+
+-- a reader that has taken no symbol
+abbrev pub unfed : PulseReader
+unfed = record { ring = replicate kept filler; next = 0 }
 
 -- the place of a reader's oldest symbol, which the next one replaces
 abbrev pub oldestAt : PulseReader → ℕ
@@ -61,3 +65,7 @@ unfoldable pub owed : ℕ → List ℕ → Said
 owed base h =
     cond (outlined 62 h) (saidOf (readDcf77 base (drop 1 (lastOf 62 h))))
     (cond (outlined 61 h) (saidOf (readDcf77 base (drop 1 (lastOf 61 h)))) Nothing)
+
+-- all the answers of a fresh reader to the symbols that come, one a symbol, as `step` gives them with the next state
+unfoldable pub answers : ℕ → List ℕ → List Said
+answers base symbols = saidBy taken (λ reader symbol. sayOf base (push (keptBy reader) symbol)) unfed symbols

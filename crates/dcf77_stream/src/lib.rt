@@ -7,11 +7,11 @@ use reading::Refusal;
 use wire::put::put_at;
 ghost use mathlib.Core.Path.{_≡_};
 ghost use Prim.Native.Nat.{_+_, _≤_, _<_};
-ghost use lib.ListN.{length, drop, replicate};
+ghost use lib.ListN.{length, drop};
 ghost use Rattle.reading.specs.Years.{base};
 ghost use Rattle.dcf77.specs.Reader.{readDcf77};
 ghost use Rattle.streams.specs.Stream.{push, placeOf, unrolled};
-ghost use Rattle.dcf77_stream.specs.Said.{kept, filler, keptBy, taken, marksThenGap, betweenGaps, saidOf, sayOf, owed};
+ghost use Rattle.dcf77_stream.specs.Said.{kept, unfed, keptBy, taken, marksThenGap, betweenGaps, saidOf, sayOf, owed};
 
 // What is said after a symbol: a time with its head, a refusal or nothing.
 pub enum Said {
@@ -130,7 +130,7 @@ fn say_closed(ring: &[u8], newest: usize) -> Said
 impl PulseReader {
     // A reader that has taken no symbol.
     pub fn fresh() -> Self
-        ensures { λ r. ⌜ r ≡ record { ring = replicate kept filler; next = 0 } ⌝ }
+        ensures { λ r. ⌜ r ≡ unfed ⌝ }
     {
         PulseReader {
             ring: [255u8; 62],
@@ -142,7 +142,8 @@ impl PulseReader {
     pub fn step(self, symbol: u8) -> Stepped
         ensures { λ r. ⌜ r ≡ record { reader = taken self symbol; said = sayOf base (push (keptBy self) symbol) } ⌝ }
     {
-        let place = place_of(self.next);
+        let at = self.next;
+        let place = place_of(at);
         let old = self.ring;
         let mut new = old;
         new[place] = symbol;

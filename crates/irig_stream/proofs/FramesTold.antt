@@ -9,24 +9,25 @@ use lib.ListN.{length, getD, take, drop, length-append, drop-of-length-le}
 use lib.Seq.{split-at}
 use borrow.Author.Tests.{le-leb}
 use Rattle.reading.specs.declared.Reading.{Reading}
+use Rattle.reading.specs.declared.Refusal.{Refusal}
 use Rattle.reading.specs.declared.Verdict.the-variants.{Good}
 use Rattle.reading.specs.declared.Written.the-variants.{Length}
 use Rattle.reading.specs.Writing.{writtenOf, filled}
 use Rattle.reading.specs.Checks.{checkedOf}
 use Rattle.pulses.specs.Row.{groupOf, pulseOf, pulseFor, row}
 use Rattle.pulses.specs.Outline.{outlineOf}
-use Rattle.pulses.proofs.OutlineLaws.{row-outline}
+use Rattle.pulses.proofs.OutlineLaws.{row-outline, outline-length}
 use Rattle.pulses.proofs.RowLaws.{pulse-at}
 use Rattle.irig_table.specs.Table.{framePulses}
 use Rattle.irig_table.proofs.TableLaws.{frame-length}
-use Rattle.irig.specs.declared.Answer.the-variants.{Time as Told}
+use Rattle.irig.specs.declared.Answer.the-variants.{Time as Told, No as Not}
 use Rattle.irig.specs.Faults.{frameLength, readFrame}
 use Rattle.irig.specs.Writing.{valuesOf, parityOf, frameOf, writeFault}
 use Rattle.irig.proofs.WriteLaws.{length-frame}
 use Rattle.irig.proofs.RoundTrip.{exactly, written-reads}
 use Rattle.streams.proofs.Window.{last-after}
-use Rattle.irig_stream.specs.declared.Said.the-variants.{Time}
-use Rattle.irig_stream.specs.Said.{kept, sayOf, owed}
+use Rattle.irig_stream.specs.declared.Said.the-variants.{Time, No}
+use Rattle.irig_stream.specs.Said.{kept, saidOf, sayOf, owed}
 
 -- ---- a frame has the outline, and a mark at both ends
 
@@ -49,18 +50,23 @@ closes-with-mark r =
 
 -- ---- what is owed after a frame
 
+-- a hundred pulses in outline: what whole-frame reading says of them, whatever came before them
+outlined-told : (base : ℕ) (s : List ℕ) → outlineOf framePulses s ≡ true → (before : List ℕ) → owed base (before ++ s) ≡ saidOf (readFrame base s)
+unfolding owed sayOf
+outlined-told base s o before =
+    let l : length s ≡ kept = outline-length framePulses s o ∙ frame-length in
+    let k : kept ≤ length (before ++ s) = simp length-append (omega arith) in
+    rw (le-leb kept (length (before ++ s)) k, last-after kept before s l, o)
+
+-- its refusal too, with the code and the place
+pub refused-told : (base : ℕ) (s : List ℕ) (refusal : Refusal) → outlineOf framePulses s ≡ true → readFrame base s ≡ Not refusal
+    → (before : List ℕ) → owed base (before ++ s) ≡ No refusal
+refused-told base s refusal o e before = outlined-told base s o before ∙ ap saidOf e
+
 module _ (base : ℕ) (r : Reading) (good : checkedOf base r ≡ Good) where
   -- whatever came before it
   pub frame-told : (before : List ℕ) → owed base (before ++ frameOf r) ≡ Time r
-  unfolding owed sayOf
-  frame-told before =
-      let k : kept ≤ length (before ++ frameOf r) = simp length-append (omega (arith, length-frame r)) in
-      rw (
-        le-leb kept (length (before ++ frameOf r)) k,
-        last-after kept before (frameOf r) (length-frame r),
-        frame-outline r,
-        exactly base (frameOf r) r .1 (good, refl),
-      )
+  frame-told before = outlined-told base (frameOf r) (frame-outline r) before ∙ ap saidOf (exactly base (frameOf r) r .1 (good, refl))
 
   -- the closing mark of any frame serves as its opening mark
   pub mark-shared : (before : List ℕ) (q : Reading) → owed base (before ++ (frameOf q ++ drop 1 (frameOf r))) ≡ Time r

@@ -4,31 +4,32 @@ use mathlib.Core.List.{List}
 use mathlib.Core.Path.{_≡_, refl, sym, ap, _∙_}
 use Prim.Native.Nat.{ℕ, _+_, _<_}
 use native.Mathlib.Omega.{arith}
-use lib.ListN.{length, getD, replicate, length-set}
+use lib.ListN.{length, getD, replicate}
 use Rattle.pulses.specs.Row.{marks, groupOf}
 use Rattle.pulses.specs.Outline.{outlineOf}
 use Rattle.pulses.proofs.OutlineLaws.{outline-each, outline-mark}
 use Rattle.irig_table.specs.Table.{framePulses}
 use Rattle.irig_table.proofs.TableLaws.{frame-length}
 use Rattle.streams.specs.Stream.{push, placeOf, unrolled}
-use Rattle.streams.proofs.Ring.{place-small, unrolled-first, newest, oldest, taken-pushes}
+use Rattle.streams.proofs.Ring.{place-small, unrolled-length, unrolled-first, newest, oldest, taken-pushes}
 use Rattle.irig_stream.specs.declared.PulseReader.{PulseReader}
 use Rattle.irig_stream.specs.declared.Said.the-variants.{Nothing}
-use Rattle.irig_stream.specs.Said.{kept, filler, oldestAt, keptBy, taken, sayOf}
+use Rattle.irig_stream.specs.Said.{kept, filler, unfed, oldestAt, keptBy, taken, sayOf}
 
 -- ---- what a reader keeps
 
-pub kept-fresh : keptBy (record { ring = replicate kept filler; next = 0 }) ≡ replicate kept filler
+pub kept-fresh : keptBy unfed ≡ replicate kept filler
 unfolding keptBy placeOf
 kept-fresh = unrolled-first (replicate kept filler)
 
-pub kept-taken : (reader : PulseReader) (p : ℕ) → length (reader .ring) ≡ kept → keptBy (taken reader p) ≡ push (keptBy reader) p
-unfolding keptBy taken
-kept-taken reader p l = taken-pushes kept (reader .ring) (oldestAt reader) p l (place-small kept (reader .next) (omega arith))
+pub kept-length : (reader : PulseReader) → length (keptBy reader) ≡ length (reader .ring)
+unfolding keptBy
+kept-length reader = unrolled-length (reader .ring) (oldestAt reader)
 
-pub taken-length : (reader : PulseReader) (p : ℕ) → length (reader .ring) ≡ kept → length (taken reader p .ring) ≡ kept
-unfolding taken
-taken-length reader p l = simp length-set l
+pub kept-taken : (reader : PulseReader) (p : ℕ) → length (keptBy reader) ≡ kept → keptBy (taken reader p) ≡ push (keptBy reader) p
+unfolding keptBy taken
+kept-taken reader p l =
+    taken-pushes kept (reader .ring) (oldestAt reader) p (sym (kept-length reader) ∙ l) (place-small kept (reader .next) (omega arith))
 
 -- ---- where nothing is said
 

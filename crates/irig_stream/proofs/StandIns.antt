@@ -1,8 +1,8 @@
--- Stand-ins for a pulse reader that "have to break" the contract: an answer to all the pulses that came, which is after every
--- pulse what is owed, is none of them.
+-- Stand-ins for a pulse reader that "have to break" the contract: a fresh reader and a step function that meet the contracts of
+-- `fresh` and `step`, as the checker reads them off the source, and are run pulse by pulse, are none of them.
 use mathlib.Core.List.{List, [], _∷_, _++_}
 use mathlib.Core.Path.{_≡_, refl, ap, _∙_}
-use Prim.Native.Nat.{ℕ, _<_}
+use Prim.Native.Nat.{ℕ}
 use native.Mathlib.Omega.{arith}
 use lib.IntN.{pos, natAbs}
 use lib.ListN.{length, take, drop, replicate, length-drop}
@@ -14,10 +14,21 @@ use Rattle.reading.specs.Checks.{checkedOf}
 use Rattle.irig.specs.Writing.{frameOf}
 use Rattle.irig.proofs.Worked.{atOffset, at-offset-checked}
 use Rattle.irig.proofs.WriteLaws.{length-frame}
+use Rattle.streams.specs.Stream.{answersOf, newestOf}
+use Rattle.streams.specs.StandIns.{SilentEver, RestartsAtTwos, RefusesAll, RepeatsFirst, SilentAfterFirst, SilentBefore}
+use Rattle.streams.proofs.Meets.{Meets}
+use Rattle.streams.proofs.Runs.{says-owed}
+use Rattle.irig_stream.specs.declared.PulseReader.{PulseReader}
 use Rattle.irig_stream.specs.declared.Said.{Said}
 use Rattle.irig_stream.specs.declared.Said.the-variants.{Time, Nothing}
-use Rattle.irig_stream.specs.Said.{kept, owed}
+use Rattle.irig_stream.specs.declared.Stepped.{Stepped}
+use Rattle.irig_stream.specs.Said.{kept, unfed, owed, answers}
+use Rattle.irig_stream.proofs.StreamLaws.{fresh-says-owed}
 use Rattle.irig_stream.proofs.FramesTold.{closes-with-mark, frame-told, mark-shared}
+use Rattle.irig_stream.proofs.PulseReader.fresh.Kinds as fresh-kinds
+use Rattle.irig_stream.proofs.PulseReader.fresh.Reads as fresh-reads
+use Rattle.irig_stream.proofs.PulseReader.step.Kinds as step-kinds
+use Rattle.irig_stream.proofs.PulseReader.step.Reads as step-reads
 
 -- two times that differ: one wall-clock time at UTC, and half an hour ahead of it
 abbrev first : Reading
@@ -41,61 +52,60 @@ different e = let z : _≡_ {A = ℕ} 1 0 = ap (λ (r : Reading). natAbs (r .off
 abbrev stray : List ℕ
 stray = 2 ∷ replicate 8 0
 
+-- the answer is the time r
+abbrev pub Tells : Said → Reading → Type 0
+Tells said r = said ≡ Time r
+
+never-both : {said : Said} {r : Reading} → Tells said r → said ≡ Nothing → ⊥
+never-both t n = let z : _≡_ {A = ℕ} 0 1 = cc in omega arith
+
 too-few : owed base (2 ∷ []) ≡ Nothing
 unfolding owed
 too-few = refl
 
-module _ (answer : List ℕ → Said) (meets : (pulses : List ℕ) → answer pulses ≡ owed base pulses) where
-  first-told : answer (frameOf first) ≡ Time first
+-- what a step function says after the last of the pulses that a reader is fed one by one; nothing where none came
+abbrev pub answerBy : PulseReader → (PulseReader → ℕ → Stepped) → List ℕ → Said
+answerBy fresh step pulses = newestOf Nothing (answersOf (λ s. s .reader) (λ s. s .said) step fresh pulses)
+
+module _ (fresh : PulseReader) (step : PulseReader → ℕ → Stepped)
+    (starts : Meets 0 fresh-kinds.ps fresh-kinds.r fresh-reads.Post (λ κs a. fresh))
+    (steps : Meets 0 step-kinds.ps step-kinds.r step-reads.Post (λ κs a. step (a .0) (a .1 .0))) where
+  meets : (pulses : List ℕ) → answerBy fresh step pulses ≡ owed base pulses
+  unfolding answers owed
+  meets pulses =
+      ap (λ (reader : PulseReader). answerBy reader step pulses) (starts tt tt tt)
+      ∙ says-owed (λ s. s .reader) (λ s. s .said) step _ (λ reader pulse. steps tt (reader, (pulse, tt)) (reader, (pulse, tt))) (owed base) unfed (fresh-says-owed base) pulses
+
+  first-told : Tells (answerBy fresh step (frameOf first)) first
   first-told = meets (frameOf first) ∙ frame-told base first first-good []
 
-  -- it says nothing, whatever comes
-  pub silent-ever : ((pulses : List ℕ) → answer pulses ≡ Nothing) → ⊥
-  silent-ever silent =
-      let s = silent (frameOf first) in
-      let t = first-told in
-      let z : _≡_ {A = ℕ} 0 1 = cc in
-      omega arith
+  second-told : Tells (answerBy fresh step (frameOf first ++ frameOf second)) second
+  second-told = meets (frameOf first ++ frameOf second) ∙ frame-told base second second-good (frameOf first)
 
-  -- it refuses whatever it speaks of
-  pub refuses-all : ((pulses : List ℕ) (r : Reading) → answer pulses ≡ Time r → ⊥) → ⊥
+  pub silent-ever : SilentEver (answerBy fresh step) Nothing → ⊥
+  silent-ever silent = never-both first-told (silent (frameOf first))
+
+  pub refuses-all : RefusesAll (answerBy fresh step) Tells → ⊥
   refuses-all none = none (frameOf first) first first-told
 
-  -- "decodes its first frame and then repeats it": after a time it tells no other
-  pub repeats-first : ((pulses more : List ℕ) (r q : Reading) → answer pulses ≡ Time r → answer (pulses ++ more) ≡ Time q → q ≡ r) → ⊥
-  repeats-first same =
-      let t = meets (frameOf first ++ frameOf second) ∙ frame-told base second second-good (frameOf first) in
-      different (same (frameOf first) (frameOf second) first second first-told t)
+  pub repeats-first : RepeatsFirst (answerBy fresh step) Tells → ⊥
+  repeats-first same = different (same (frameOf first) (frameOf second) first second first-told second-told)
 
-  -- "or stays silent": after a time it tells none
-  pub silent-after-first :
-      ((pulses more : List ℕ) (r q : Reading) → answer pulses ≡ Time r → 0 < length more → answer (pulses ++ more) ≡ Time q → ⊥) → ⊥
-  silent-after-first none =
-      let t = meets (frameOf first ++ frameOf second) ∙ frame-told base second second-good (frameOf first) in
-      none (frameOf first) (frameOf second) first second first-told (omega (arith, length-frame second)) t
+  pub silent-after-first : SilentAfterFirst (answerBy fresh step) Tells → ⊥
+  silent-after-first none = none (frameOf first) (frameOf second) first second first-told (omega (arith, length-frame second)) second-told
 
-  -- "Dropping the closing mark of a frame": after a time it tells none before a hundred more pulses have come
-  pub drops-closing-mark :
-      ((pulses more : List ℕ) (r q : Reading) → answer pulses ≡ Time r → 0 < length more → length more < kept → answer (pulses ++ more) ≡ Time q → ⊥)
-      → ⊥
+  -- none before a hundred more pulses have come
+  pub drops-closing-mark : SilentBefore (answerBy fresh step) Tells kept → ⊥
   drops-closing-mark none =
       let rest = drop 1 (frameOf first) in
       let l : length rest ≡ 99 = length-drop 1 (frameOf first) ∙ simp (length-frame first) in
       let t = meets (frameOf first ++ rest) ∙ mark-shared base first first-good [] first in
       none (frameOf first) rest first first first-told (omega arith) (omega arith) t
 
-  -- "Restarting at each mark": what it says goes by the pulses from a mark on, whatever came before that mark
-  pub restarts-at-marks : ((before after : List ℕ) → answer (before ++ (2 ∷ after)) ≡ answer (2 ∷ after)) → ⊥
+  pub restarts-at-marks : RestartsAtTwos (answerBy fresh step) → ⊥
   restarts-at-marks forgets =
-      let f = ap answer (closes-with-mark first) ∙ forgets (take 99 (frameOf first)) [] ∙ meets (2 ∷ []) ∙ too-few in
-      let t = first-told in
-      let z : _≡_ {A = ℕ} 0 1 = cc in
-      omega arith
+      never-both first-told (ap (answerBy fresh step) (closes-with-mark first) ∙ forgets (take 99 (frameOf first)) [] ∙ meets (2 ∷ []) ∙ too-few)
 
   -- "without keeping the older candidate alive": a stray mark nine pulses before a frame makes it miss that frame
-  pub loses-older-candidate : ((r : Reading) → answer (stray ++ frameOf r) ≡ Nothing) → ⊥
-  loses-older-candidate misses =
-      let m = misses first in
-      let t = meets (stray ++ frameOf first) ∙ frame-told base first first-good stray in
-      let z : _≡_ {A = ℕ} 0 1 = cc in
-      omega arith
+  pub loses-older-candidate : ((r : Reading) → answerBy fresh step (stray ++ frameOf r) ≡ Nothing) → ⊥
+  loses-older-candidate misses = never-both (meets (stray ++ frameOf first) ∙ frame-told base first first-good stray) (misses first)

@@ -1,21 +1,21 @@
 -- Demand 3 for IEEE 1344: after every pulse a fresh reader says what is owed to the pulses that came, and no damage lasts longer than a hundred pulses.
 use mathlib.Core.Bool.{Bool, true, false, cond}
 use mathlib.Core.List.{List, [], _∷_, _++_}
-use mathlib.Core.Path.{_≡_, refl, sym, ap, _∙_}
-use Prim.Native.Nat.{ℕ, _≤_}
+use mathlib.Core.Path.{_≡_, refl, ap, _∙_}
+use Prim.Native.Nat.{ℕ, _-_, _≤_}
 use native.Mathlib.Omega.{arith}
 use lib.Dec.{leb}
-use lib.ListN.{length, getD, replicate}
+use lib.ListN.{length, getD, drop}
 use borrow.Author.Tests.{leb-true, leb-false}
 use Rattle.pulses.specs.Outline.{outlineOf}
 use Rattle.irig_table.specs.Table.{framePulses}
-use Rattle.streams.specs.Stream.{push, lastOf, windowOf, saidTo, saidBy, owedTo}
+use Rattle.streams.specs.Stream.{push, lastOf, windowOf, fed, saidBy, owedTo}
 use Rattle.streams.proofs.Window.{window-push, window-full, window-early}
 use Rattle.streams.proofs.Runs as runs
 use Rattle.irig_stream.specs.declared.PulseReader.{PulseReader}
 use Rattle.irig_stream.specs.declared.Said.the-variants.{Nothing}
-use Rattle.irig_stream.specs.Said.{kept, filler, keptBy, taken, sayOf, owed}
-use Rattle.irig_stream.proofs.RingLaws.{kept-fresh, kept-taken, taken-length, first-is-mark, lacks-mark}
+use Rattle.irig_stream.specs.Said.{kept, filler, unfed, keptBy, taken, sayOf, owed, answers}
+use Rattle.irig_stream.proofs.RingLaws.{kept-fresh, kept-length, kept-taken, first-is-mark, lacks-mark}
 
 -- a window whose oldest is the filler has no outline
 no-outline : (w : List ℕ) → getD w 0 0 ≡ filler → outlineOf framePulses w ≡ false
@@ -30,26 +30,30 @@ pub due : (base : ℕ) (h : List ℕ) → sayOf base (windowOf kept filler h) �
 unfolding owed
 due base h = by-test base h (leb kept (length h)) refl
 
--- after every pulse of every stream
-pub after-every-pulse : (base : ℕ) (pulses : List ℕ) → saidTo (sayOf base) (replicate kept filler) pulses ≡ owedTo (owed base) [] pulses
-after-every-pulse base = runs.run kept filler (omega arith) (sayOf base) (owed base) (due base)
-
--- "two readers whose last hundred pulses agree say the same from then on while they are fed alike"
-pub agree-agree : (base : ℕ) (g h : List ℕ) → kept ≤ length g → kept ≤ length h → lastOf kept g ≡ lastOf kept h → (pulses : List ℕ) → owedTo (owed base) g pulses ≡ owedTo (owed base) h pulses
-agree-agree base = runs.alike kept filler (omega arith) (sayOf base) (owed base) (due base)
-
 -- one pulse more
 pub windowed : (h : List ℕ) (p : ℕ) → push (windowOf kept filler h) p ≡ windowOf kept filler (h ++ (p ∷ []))
 windowed h p = window-push kept filler h p (omega arith)
 
--- ---- the same of readers, whose rings may begin anywhere
+-- once so many pulses have come, a reader keeps the last of them, whatever it kept before
+pub keeps-last : (reader : PulseReader) → length (reader .ring) ≡ kept → (pulses : List ℕ) → kept ≤ length pulses → keptBy (fed taken reader pulses) ≡ lastOf kept pulses
+keeps-last reader l pulses k = runs.keeps-last kept (omega arith) keptBy taken kept-taken reader pulses (kept-length reader ∙ l) k
 
 module _ (base : ℕ) where
-  by-window : (reader : PulseReader) → length (reader .ring) ≡ kept → (pulses : List ℕ) → saidBy keptBy taken (sayOf base) reader pulses ≡ saidTo (sayOf base) (keptBy reader) pulses
-  by-window = runs.by-window keptBy taken (λ (reader : PulseReader). length (reader .ring) ≡ kept) taken-length kept-taken (sayOf base)
+  -- after every pulse of every stream
+  pub fresh-says-owed : (pulses : List ℕ) → answers base pulses ≡ owedTo (owed base) [] pulses
+  unfolding answers
+  fresh-says-owed = runs.run kept (omega arith) keptBy taken kept-taken (sayOf base) filler (owed base) (due base) unfed kept-fresh
 
-  pub fresh-says-owed : (pulses : List ℕ) → saidBy keptBy taken (sayOf base) (record { ring = replicate kept filler; next = 0 }) pulses ≡ owedTo (owed base) [] pulses
-  fresh-says-owed pulses = by-window (record { ring = replicate kept filler; next = 0 }) refl pulses ∙ ap (λ (w : List ℕ). saidTo (sayOf base) w pulses) kept-fresh ∙ after-every-pulse base pulses
+  -- any two readers, whatever states they were in when they were fed g and h
+  pub any-two-readers : (a b : PulseReader) → length (a .ring) ≡ kept → length (b .ring) ≡ kept
+      → (g h : List ℕ) → kept ≤ length g → kept ≤ length h → lastOf kept g ≡ lastOf kept h → (pulses : List ℕ)
+      → drop (length g - 1) (saidBy taken (λ reader p. sayOf base (push (keptBy reader) p)) a (g ++ pulses))
+      ≡ drop (length h - 1) (saidBy taken (λ reader p. sayOf base (push (keptBy reader) p)) b (h ++ pulses))
+  any-two-readers a b k l =
+      runs.two-readers kept (omega arith) keptBy taken kept-taken (sayOf base) a b (kept-length a ∙ k) (kept-length b ∙ l)
 
-  pub readers-agree : (a b : PulseReader) → length (a .ring) ≡ kept → length (b .ring) ≡ kept → keptBy a ≡ keptBy b → (pulses : List ℕ) → saidBy keptBy taken (sayOf base) a pulses ≡ saidBy keptBy taken (sayOf base) b pulses
-  readers-agree a b k l e pulses = by-window a k pulses ∙ ap (λ (w : List ℕ). saidTo (sayOf base) w pulses) e ∙ sym (by-window b l pulses)
+  -- "So two readers whose last hundred pulses agree .. say the same from then on while they are fed alike": from the answer to the last pulse of each on, all is the same
+  pub two-readers : (g h : List ℕ) → kept ≤ length g → kept ≤ length h → lastOf kept g ≡ lastOf kept h → (pulses : List ℕ)
+      → drop (length g - 1) (answers base (g ++ pulses)) ≡ drop (length h - 1) (answers base (h ++ pulses))
+  unfolding answers
+  two-readers = any-two-readers unfed unfed refl refl

@@ -1,28 +1,31 @@
--- Case 11 of document 01: "Case 6's frame followed by its own pulses 1..99: two times, after pulse 100 and after pulse 199, one
--- mark shared"; and nothing after any other pulse.
+-- Cases 7 and 11 of document 01 as streams. 11: "Case 6's frame followed by its own pulses 1..99: two times, after pulse 100 and
+-- after pulse 199, one mark shared"; and nothing after any other pulse. 7: "The same with pulse 84 cleared: code 7", after pulse 100.
 use mathlib.Core.Bool.{cond}
 use mathlib.Core.List.{List, [], _∷_, _++_}
 use mathlib.Core.Path.{_≡_, refl, sym, ap, _∙_}
 use Prim.Native.Nat.{ℕ}
 use lib.IntN.{pos}
-use lib.ListN.{drop, replicate}
-use Rattle.reading.specs.Years.{base}
+use lib.ListN.{set, drop, replicate}
+use Rattle.calendar.specs.Calendar.{leapYear, inYear, yearLength}
+use Rattle.reading.specs.Faults.{number}
+use Rattle.reading.specs.Years.{base, yearOf}
 use Rattle.reading.specs.Offset.{west, east, offsetGood}
-use Rattle.pulses.specs.Row.{groupOf, upTo}
+use Rattle.pulses.specs.Row.{groupOf, weightOf, pulseAllowed, goodPulses, shareOf, sumOf, sumsOf, upTo, onesFrom}
 use Rattle.pulses.specs.Outline.{inOutline, outlineOf}
 use Rattle.irig_table.specs.Table.{framePulses}
 use Rattle.irig_table.specs.Paper.{markDue}
 use Rattle.irig_table.proofs.WorkedFrame.{ones, among}
 use Rattle.irig.specs.declared.Answer.{Answer}
-use Rattle.irig.specs.declared.Answer.the-variants.{Time as Told}
-use Rattle.irig.specs.Faults.{frameLength, readFrame}
-use Rattle.irig.specs.Writing.{frameOf}
+use Rattle.irig.specs.declared.Answer.the-variants.{Time as Told, No as Not}
+use Rattle.irig.specs.Meaning.{secondIn, minuteIn, hourIn, dayIn, digitsIn, yearIn, dayBad, secondOfDayWrong}
+use Rattle.irig.specs.Faults.{frameLength, isOdd, fieldsFault, valuesFault, faultIn, readFrame}
 use Rattle.irig.proofs.RoundTrip.{exactly}
 use Rattle.irig.proofs.Worked.{case6, case-6, at-offset-checked}
 use Rattle.streams.specs.Stream.{lastOf, owedTo}
 use Rattle.irig_stream.specs.declared.Said.{Said}
-use Rattle.irig_stream.specs.declared.Said.the-variants.{Time, Nothing}
-use Rattle.irig_stream.specs.Said.{saidOf, sayOf, owed}
+use Rattle.irig_stream.specs.declared.Said.the-variants.{Time, No, Nothing}
+use Rattle.irig_stream.specs.Said.{saidOf, sayOf, owed, answers}
+use Rattle.irig_stream.proofs.StreamLaws.{fresh-says-owed}
 
 -- case 6's frame, from the places of its marks and its ones
 abbrev pulses6 : List ℕ
@@ -40,5 +43,21 @@ read-6 : readFrame base pulses6 ≡ Told case6
 unfolding offsetGood west east
 read-6 = exactly base pulses6 case6 .1 (at-offset-checked (pos 2) refl, sym case-6)
 
-pub case-11 : owedTo (owed base) [] (frameOf case6 ++ drop 1 (frameOf case6)) ≡ replicate 99 Nothing ++ (Time case6 ∷ replicate 98 Nothing ++ (Time case6 ∷ []))
-case-11 = ap (λ (f : List ℕ). owedTo (owed base) [] (f ++ drop 1 f)) case-6 ∙ outlines ∙ ap twice read-6
+pub case-11 : answers base (pulses6 ++ drop 1 pulses6) ≡ replicate 99 Nothing ++ (Time case6 ∷ replicate 98 Nothing ++ (Time case6 ∷ []))
+case-11 = fresh-says-owed base (pulses6 ++ drop 1 pulses6) ∙ outlines ∙ ap twice read-6
+
+-- ---- the same with pulse 84 cleared
+
+abbrev pulses7 : List ℕ
+pulses7 = set pulses6 84 0
+
+outlines-7 : owedTo (owed base) [] pulses7 ≡ replicate 99 Nothing ++ (saidOf (readFrame base pulses7) ∷ [])
+unfolding owedTo owed sayOf lastOf outlineOf inOutline groupOf framePulses upTo among ones
+outlines-7 = refl
+
+read-7 : readFrame base pulses7 ≡ Not (record { code = 7; place = 0 })
+unfolding number readFrame faultIn valuesFault fieldsFault isOdd secondIn minuteIn hourIn dayIn digitsIn yearIn dayBad secondOfDayWrong goodPulses pulseAllowed sumsOf sumOf shareOf upTo among ones groupOf weightOf framePulses onesFrom leapYear inYear yearLength yearOf
+read-7 = refl
+
+pub case-7 : answers base pulses7 ≡ replicate 99 Nothing ++ (No (record { code = 7; place = 0 }) ∷ [])
+case-7 = fresh-says-owed base pulses7 ∙ outlines-7 ∙ ap (λ (a : Answer). replicate 99 Nothing ++ (saidOf a ∷ [])) read-7

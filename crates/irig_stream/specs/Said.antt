@@ -3,13 +3,13 @@ use mathlib.Core.Bool.{cond}
 use mathlib.Core.List.{List}
 use Prim.Native.Nat.{ℕ, _+_}
 use lib.Dec.{leb}
-use lib.ListN.{length, set}
+use lib.ListN.{length, set, replicate}
 use Rattle.pulses.specs.Outline.{outlineOf}
 use Rattle.irig_table.specs.Table.{framePulses}
 use Rattle.irig.specs.declared.Answer.{Answer}
 use Rattle.irig.specs.declared.Answer.the-variants.{Time as Told, No as Not}
 use Rattle.irig.specs.Faults.{readFrame}
-use Rattle.streams.specs.Stream.{lastOf, placeOf, unrolled}
+use Rattle.streams.specs.Stream.{push, lastOf, placeOf, unrolled, saidBy}
 use Rattle.irig_stream.specs.declared.PulseReader.{PulseReader}
 use Rattle.irig_stream.specs.declared.Said.{Said}
 use Rattle.irig_stream.specs.declared.Said.the-variants.{Time, No, Nothing}
@@ -21,6 +21,10 @@ kept = 100
 -- what a fresh reader is full of: no pulse
 abbrev pub filler : ℕ
 filler = 255
+
+-- a reader that has taken no pulse
+abbrev pub unfed : PulseReader
+unfed = record { ring = replicate kept filler; next = 0 }
 
 -- the place of a reader's oldest pulse, which the next one replaces
 abbrev pub oldestAt : PulseReader → ℕ
@@ -45,3 +49,7 @@ sayOf base w = cond (outlineOf framePulses w) (saidOf (readFrame base w)) Nothin
 -- "After every pulse it says what whole-frame reading says of the last hundred pulses. It says nothing where these do not have the frame's outline, or too few have come."
 unfoldable pub owed : ℕ → List ℕ → Said
 owed base h = cond (leb kept (length h)) (sayOf base (lastOf kept h)) Nothing
+
+-- all the answers of a fresh reader to the pulses that come, one a pulse, as `step` gives them with the next state
+unfoldable pub answers : ℕ → List ℕ → List Said
+answers base pulses = saidBy taken (λ reader pulse. sayOf base (push (keptBy reader) pulse)) unfed pulses

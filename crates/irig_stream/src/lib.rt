@@ -7,10 +7,10 @@ use reading::Refusal;
 use wire::put::put_at;
 ghost use mathlib.Core.Path.{_≡_};
 ghost use Prim.Native.Nat.{_+_, _<_};
-ghost use lib.ListN.{length, replicate};
+ghost use lib.ListN.{length};
 ghost use Rattle.reading.specs.Years.{base};
 ghost use Rattle.streams.specs.Stream.{push, placeOf, unrolled};
-ghost use Rattle.irig_stream.specs.Said.{kept, filler, keptBy, taken, saidOf, sayOf, owed};
+ghost use Rattle.irig_stream.specs.Said.{kept, unfed, keptBy, taken, saidOf, sayOf, owed};
 
 // What is said after a pulse: a time, a refusal or nothing.
 pub enum Said {
@@ -90,7 +90,7 @@ fn say_closed(ring: &[u8], newest: usize) -> Said
 impl PulseReader {
     // A reader that has taken no pulse.
     pub fn fresh() -> Self
-        ensures { λ r. ⌜ r ≡ record { ring = replicate kept filler; next = 0 } ⌝ }
+        ensures { λ r. ⌜ r ≡ unfed ⌝ }
     {
         PulseReader {
             ring: [255u8; 100],
@@ -102,7 +102,8 @@ impl PulseReader {
     pub fn step(self, pulse: u8) -> Stepped
         ensures { λ r. ⌜ r ≡ record { reader = taken self pulse; said = sayOf base (push (keptBy self) pulse) } ⌝ }
     {
-        let place = place_of(self.next);
+        let at = self.next;
+        let place = place_of(at);
         let old = self.ring;
         let mut new = old;
         new[place] = pulse;

@@ -1,3 +1,4 @@
 pub mod Window
 pub mod Runs
 pub mod Ring
+pub mod Meets

@@ -33,6 +33,10 @@ place-small n next one = go (ltb next n) refl
 
 -- ---- the window of a ring
 
+pub unrolled-length : (w : List ℕ) (k : ℕ) → length (unrolled w k) ≡ length w
+unfolding unrolled
+unrolled-length w k = simp (length-append, length-take, length-drop) (omega arith)
+
 pub unrolled-first : (w : List ℕ) → unrolled w 0 ≡ w
 unfolding unrolled
 unrolled-first w = append-nil w

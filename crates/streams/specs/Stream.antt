@@ -13,9 +13,13 @@ push w p = drop 1 w ++ (p ∷ [])
 unfoldable pub lastOf : ℕ → List ℕ → List ℕ
 lastOf n h = drop (length h - n) h
 
+-- a window after the pulses h: as many of its oldest have gone
+abbrev pub slid : List ℕ → List ℕ → List ℕ
+slid w h = drop (length h) (w ++ h)
+
 -- the window of n pulses after the pulses h, where a fresh reader's window is full of a filler
 unfoldable pub windowOf : ℕ → ℕ → List ℕ → List ℕ
-windowOf n filler h = drop (length h) (replicate n filler ++ h)
+windowOf n filler h = slid (replicate n filler) h
 
 -- the place in a ring of n pulses that a number stands for: from n on the first
 unfoldable pub placeOf : ℕ → ℕ → ℕ
@@ -25,16 +29,26 @@ placeOf n next = cond (ltb next n) next 0
 unfoldable pub unrolled : List ℕ → ℕ → List ℕ
 unrolled ring k = drop k ring ++ take k ring
 
-module _ {A : Type 0} where
-  -- what a reader with the window w says after each of the pulses that come
-  unfoldable pub saidTo : (List ℕ → A) → List ℕ → List ℕ → List A
-  saidTo say w [] = []
-  saidTo say w (p ∷ ps) = say (push w p) ∷ saidTo say (push w p) ps
+module _ {S : Type 0} where
+  -- the state of a reader after the pulses that came, where each pulse taken gives the next state
+  unfoldable pub fed : (S → ℕ → S) → S → List ℕ → S
+  fed takes s [] = s
+  fed takes s (p ∷ ps) = fed takes (takes s p) ps
 
-  -- what a reader says after each of them, step by step: a state keeps a window, and a pulse taken gives the next state
-  unfoldable pub saidBy : {S : Type 0} → (S → List ℕ) → (S → ℕ → S) → (List ℕ → A) → S → List ℕ → List A
-  saidBy keeps takes say s [] = []
-  saidBy keeps takes say s (p ∷ ps) = say (push (keeps s) p) ∷ saidBy keeps takes say (takes s p) ps
+module _ {A : Type 0} where
+  -- the answers of a reader to the pulses that come, one a pulse: what a state says to a pulse, and the next state
+  unfoldable pub saidBy : {S : Type 0} → (S → ℕ → S) → (S → ℕ → A) → S → List ℕ → List A
+  saidBy takes says s [] = []
+  saidBy takes says s (p ∷ ps) = says s p ∷ saidBy takes says (takes s p) ps
+
+  -- the answers of a step function, whose result holds the next reader and what is said
+  abbrev pub answersOf : {S R : Type 0} → (R → S) → (R → A) → (S → ℕ → R) → S → List ℕ → List A
+  answersOf reader said step s ps = saidBy (λ s p. reader (step s p)) (λ s p. said (step s p)) s ps
+
+  -- the newest of the answers, and a where there is none
+  unfoldable pub newestOf : A → List A → A
+  newestOf a [] = a
+  newestOf a (b ∷ bs) = newestOf b bs
 
   -- what is owed after each of the pulses that come after the pulses h
   unfoldable pub owedTo : (List ℕ → A) → List ℕ → List ℕ → List A

@@ -1,6 +1,6 @@
 -- `irig_stream::say` meets its contract. Assumes nothing.
 use borrow.Author.Needs.{needs}
-use mathlib.Core.Path.{_≡_}
+use mathlib.Core.Path.{_≡_, sym, _∙_}
 use mathlib.Core.Bool.{true, false}
 use mathlib.Core.List.{List}
 use Rattle.pulses.specs.Outline.{outlineOf}
@@ -34,10 +34,12 @@ said-of-requires : tie.Need-said-of-requires
 said-of-requires c κs = search needs
 
 returns : tie.Need-returns
-returns c = reads _ _ (c .before .read .result) (cc) (cc) (cc)
+returns c =
+    let b = c .before .before .before in
+    reads _ _ _ (sym (b .outlined .ensures) ∙ c .before .before .if1 .taken) (c .before .read .ensures) (c .said-of .ensures)
 
 returns-2 : tie.Need-returns-2
-returns-2 c = silent _ (cc)
+returns-2 c = silent _ (sym (c .before .outlined .ensures) ∙ c .if1 .left)
 
 pub say-spec : {M : Type 1} → statement M
 say-spec = tie.close (tie.spec outlined-requires read-requires said-of-requires returns returns-2)
