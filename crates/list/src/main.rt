@@ -53,15 +53,24 @@ fn read_book(space: &mut [u8]) -> Input
     Input::Bytes(done)
 }
 
-fn write_listing(book: &[u8], page: &mut [u8]) {
-    if let Written::Length(n) = listing::list(book, page) {
-        if !io::write_all(STDOUT_FILENO, &page[..n]) {
-            io::write_all(STDERR_FILENO, b"list: standard output cannot be written\n");
-        }
+fn write_out(text: &[u8]) {
+    if !io::write_all(STDOUT_FILENO, text) {
+        io::write_all(STDERR_FILENO, b"list: standard output cannot be written\n");
     }
 }
 
-fn list_input(space: &mut [u8], page: &mut [u8]) {
+// A page of this length is never refused.
+fn write_listing(book: &[u8], page: &mut [u8])
+    requires { ⌜ roomForAny ≤ length (now page) ⌝ }
+{
+    if let Written::Length(n) = listing::list(book, page) {
+        write_out(&page[..n]);
+    }
+}
+
+fn list_input(space: &mut [u8], page: &mut [u8])
+    requires { ⌜ roomForAny ≤ length (now page) ⌝ }
+{
     if let Input::Bytes(n) = read_book(space) {
         write_listing(&space[..n], page);
         return;
