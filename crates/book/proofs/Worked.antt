@@ -8,7 +8,6 @@ use lib.IntN.{pos}
 use Rattle.calendar.specs.Calendar.{leapYear, daysIn, daysBefore, yearLength, daysBeforeYear, dayOfYear, dayNumber, weekdayOf, isMonth, lastDay, isDay, isDate, dayBefore, dayAfter, yearAfter, monthUpTo, inYear, monthDay}
 use Rattle.reading.specs.declared.Reading.{Reading}
 use Rattle.reading.specs.declared.Refusal.{Refusal}
-use Rattle.reading.specs.declared.Stamp.the-variants.{At, Refused as NoStamp}
 use Rattle.reading.specs.Faults.{number}
 use Rattle.reading.specs.Offset.{west, east, offsetGood, localOf}
 use Rattle.reading.specs.Years.{base, inHundred, yearOf}
@@ -34,8 +33,10 @@ use Rattle.dcf77.specs.Zones.{offsetIn, zoneOf, zoneBad}
 use Rattle.dcf77.specs.Forms.{lastOf, dueLong}
 use Rattle.dcf77.specs.Reader.{isLong, tableFor, says, readingOf as minuteReading, lengthBad, digitFault, odd, parityFault, dayBad as minuteDayBad, fieldFault, weekdayWrong as minuteWeekdayWrong, ruleFault, saidFault, readFault, readDcf77}
 use Rattle.book.specs.declared.Record.the-variants.{Accepted, Refused}
+use Rattle.book.specs.declared.Stamping.the-variants.{Stamped, Unstamped}
 use Rattle.book.specs.Body.{bodyLength, readBody}
 use Rattle.book.specs.Book.{recordAt, nextAt, recordsFrom, records}
+use Rattle.book.specs.Stamps.{stampingOf}
 
 -- ---- the readings
 
@@ -182,12 +183,13 @@ worked-books = (refl, refl, refl)
 
 -- case 9 is "accepted, its stamp is code 12"
 pub worked-stamps :
-    (stampOf base reading2 ≡ At 536550209)
-    × (stampOf base reading9 ≡ NoStamp (refusal 12 0))
-    × (stampOf base reading6 ≡ At 762530521)
-    × (stampOf base reading8 ≡ At 762530465)
-    × (stampOf base newYear ≡ At 536550210)
+    (stampingOf base (Accepted 1 reading2) ≡ Stamped 1 536550209)
+    × (stampingOf base (Accepted 1 reading9) ≡ Unstamped 1 (refusal 12 0))
+    × (stampingOf base (Accepted 2 reading6) ≡ Stamped 2 762530521)
+    × (stampingOf base (Accepted 3 reading6) ≡ Stamped 3 762530521)
+    × (stampingOf base (Accepted 4 reading8) ≡ Stamped 4 762530465)
+    × (stampingOf base (Accepted 5 newYear) ≡ Stamped 5 536550210)
 unfolding stampOf stampAt stampNumber hasStamp checkedOf timeBad dateBad inHundred offsetGood number
     leapYear daysIn daysBefore yearLength daysBeforeYear dayOfYear dayNumber isMonth lastDay isDay isDate dayBefore
     closesWithLeap leapMinute sixtyBad west east utcMinutes onDay utcOf
-worked-stamps = (refl, refl, refl, refl, refl)
+worked-stamps = (refl, refl, refl, refl, refl, refl)

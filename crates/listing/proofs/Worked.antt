@@ -53,7 +53,7 @@ unfolding listing bodyText linesOf lineAt decimal digitsBefore
 worked-listing =
     let b = worked-books in
     let s = worked-stamps in
-    rw (b .0, b .1, b .2, records-end base [] 0 (omega arith), s .0, s .1, s .2, s .3, s .4)
+    rw (b .0, b .1, b .2, records-end base [] 0 (omega arith), s .0, s .1, s .2, s .3, s .4, s .5)
 
 -- "reads a book from standard input, at most 65,536 bytes"
 pub listed-book : (b : List ℕ) → length b ≤ 65536 → listing base b ≡ firstLine ++ linesOf base (records base b)
