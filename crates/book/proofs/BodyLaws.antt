@@ -1,5 +1,5 @@
--- What a body that its reader accepts tells: its reading passes the checks of every reading, so that it has a stamp or is
--- refused by 12 alone.
+-- What a body that its reader accepts tells: its reading passes the checks of every reading, so that it has a stamp or its
+-- stamp is refused by 12 alone.
 use mathlib.Core.Path.{_≡_, refl}
 use mathlib.Core.Bool.{Bool, true, false, cond}
 use mathlib.Core.List.{List}
@@ -30,8 +30,10 @@ use Rattle.erlangen.proofs.Promises.{accepted-checked as erlangen-checked}
 use Rattle.irig.proofs.RoundTrip.{accepted-checked as frame-checked}
 use Rattle.dcf77.proofs.RoundTrip.{accepted-checked as minute-checked}
 use Rattle.book.specs.declared.Said.the-variants.{Time}
-use Rattle.book.specs.declared.Record.the-variants.{Stamped, Refused}
-use Rattle.book.specs.Body.{ofString, ofFrame, ofMinute, readBody, recordOf}
+use Rattle.book.specs.declared.Record.the-variants.{Accepted}
+use Rattle.book.specs.declared.Stamping.the-variants.{Stamped, Unstamped}
+use Rattle.book.specs.Body.{ofString, ofFrame, ofMinute, readBody}
+use Rattle.book.specs.Stamps.{stampingOf}
 
 string-time : (a : StringAnswer) (r : Reading) → ofString a ≡ Time r → (c : Bool) × (a ≡ StringTime r c)
 string-time (StringTime q c) r e = (c, cc)
@@ -61,15 +63,15 @@ accepted-checked base kind s r e = go (eqb kind 1) (eqb kind 2) (eqb kind 3) e
 
 -- "An accepted body whose stamp is refused is listed as `no 12 0`."
 pub stamped-or-12 : (base kind : ℕ) (s : List ℕ) (r : Reading) → readBody base kind s ≡ Time r
-    → (recordOf base kind (readBody base kind s) ≡ Stamped kind (stampNumber (utcOf r) (r .second)))
-    ⊎ (recordOf base kind (readBody base kind s) ≡ Refused kind (number OutsideStamps))
+    → (stampingOf base (Accepted kind r) ≡ Stamped kind (stampNumber (utcOf r) (r .second)))
+    ⊎ (stampingOf base (Accepted kind r) ≡ Unstamped kind (number OutsideStamps))
 stamped-or-12 base kind s r e = go (hasStamp (utcOf r .date .year)) refl
   where
     checked : checkedOf base r ≡ Good
     checked = accepted-checked base kind s r e
 
     go : (b : Bool) → hasStamp (utcOf r .date .year) ≡ b
-        → (recordOf base kind (readBody base kind s) ≡ Stamped kind (stampNumber (utcOf r) (r .second)))
-        ⊎ (recordOf base kind (readBody base kind s) ≡ Refused kind (number OutsideStamps))
-    go true h = inl (rw (e, is-stamp base r (stampNumber (utcOf r) (r .second)) (record { checked = checked; year = h; value = refl })))
-    go false h = inr (rw (e, refused-by-12 base r checked h))
+        → (stampingOf base (Accepted kind r) ≡ Stamped kind (stampNumber (utcOf r) (r .second)))
+        ⊎ (stampingOf base (Accepted kind r) ≡ Unstamped kind (number OutsideStamps))
+    go true h = inl (rw (is-stamp base r (stampNumber (utcOf r) (r .second)) (record { checked = checked; year = h; value = refl })))
+    go false h = inr (rw (refused-by-12 base r checked h))

@@ -1,19 +1,24 @@
--- What a walk over a book finds: an answer depends on what stands from its place on, the places rise, and after the end,
--- an unknown kind or a body cut short there is nothing more.
-use mathlib.Core.Path.{_≡_, refl, ap, _∙_}
+-- What a walk over a book finds: an accepted record is a whole body that its reader accepts, an answer depends on what stands
+-- from its place on, the places rise, and after the end, an unknown kind or a body cut short there is nothing more.
+use mathlib.Core.Path.{_≡_, refl, sym, ap, _∙_}
 use mathlib.Core.Bool.{Bool, true, false, cond}
 use mathlib.Core.List.{List, [], _∷_}
 use Prim.Native.Nat.{ℕ, zero, suc, _+_, _-_, _≤_, _<_}
 use native.Mathlib.Omega.{arith}
 use native.Mathlib.Decide.{ℕ-discrete}
-use lib.ListN.{length, getD, drop, length-take, length-drop}
+use lib.ListN.{length, getD, drop, length-drop}
 use lib.Seq.{getD-drop, drop-drop}
 use borrow.Author.Tests.{leb-true, leb-false, ltb-true, ltb-false, le-leb, lt-leb}
 use denote.Ref.{now}
+use Rattle.reading.specs.declared.Reading.{Reading}
 use Rattle.reading.specs.declared.Fault.the-variants.{CutShort, UnknownKind}
 use Rattle.reading.specs.Faults.{number}
+use Rattle.reading.proofs.CheckLaws.{clash}
+use Rattle.book.specs.declared.Said.{Said}
+use Rattle.book.specs.declared.Said.the-variants.{Time, No}
 use Rattle.book.specs.declared.Walk.{Walk}
-use Rattle.book.specs.declared.Record.the-variants.{Over, Refused}
+use Rattle.book.specs.declared.Record.the-variants.{Over, Accepted, Refused}
+use Rattle.book.specs.Body.{readBody, recordOf}
 use Rattle.book.specs.Book.{kindAt, lengthAt, bodyAt, past, unknown, cutShort, recordAt, nextAt, Entry, recordsWithin, recordsFrom}
 use Rattle.book.specs.Walking.{turned}
 use Rattle.book.proofs.PlaceLaws.{
@@ -21,6 +26,7 @@ use Rattle.book.proofs.PlaceLaws.{
   over-there,
   unknown-there,
   cut-there,
+  whole-there,
   from-past,
   from-unknown,
   from-cut,
@@ -45,9 +51,30 @@ place b at = go (past b at) refl (ℕ-discrete (lengthAt b at) 0) (cutShort b at
     go false e (no d) false f =
         whole (record { inside = leb-false (length b) at e; known = d; room = ltb-false (length b - (at + 1)) (lengthAt b at) f })
 
--- the reader of a kind is given as many bytes as the kind fixes
-pub body-length : (b : List ℕ) (at : ℕ) → Whole b at → length (bodyAt b at) ≡ lengthAt b at
-body-length b at w = simp (length-take, length-drop) (omega arith)
+-- ---- what an accepted record tells: its body is whole, and its reader accepts exactly that part of the book with that reading
+
+pub record BodyRead (base : ℕ) (b : List ℕ) (at kind : ℕ) (r : Reading) : Type 0 where
+  pub there : Whole b at
+  pub same : kind ≡ kindAt b at
+  pub said : readBody base kind (bodyAt b at) ≡ Time r
+
+pub accepted-there : (base : ℕ) (b : List ℕ) (at kind : ℕ) (r : Reading) → recordAt base b at ≡ Accepted kind r → BodyRead base b at kind r
+accepted-there base b at kind r e = go (place b at)
+  where
+    said : ℕ → Said
+    said k = readBody base k (bodyAt b at)
+
+    by : (a : Said) → said (kindAt b at) ≡ a → recordOf (kindAt b at) a ≡ Accepted kind r → (kind ≡ kindAt b at) × (said (kindAt b at) ≡ Time r)
+    by (Time q) p f = (cc, cc)
+    by (No x) p f = let z : _≡_ {A = ℕ} 0 1 = cc in clash z
+
+    go : Place b at → BodyRead base b at kind r
+    go (beyond h) = let o = over-there base b at h in let z : _≡_ {A = ℕ} 0 1 = cc in clash z
+    go (strange h u) = let o = unknown-there base b at h u in let z : _≡_ {A = ℕ} 0 1 = cc in clash z
+    go (short h d l) = let o = cut-there base b at h d l in let z : _≡_ {A = ℕ} 0 1 = cc in clash z
+    go (whole w) =
+        let p = by (said (kindAt b at)) refl (sym (whole-there base b at w) ∙ e) in
+        record { there = w; same = p .0; said = ap said (p .0) ∙ p .1 }
 
 -- ---- "offsets rise strictly"
 

@@ -54,7 +54,7 @@ module _ (base : ℕ) (b : List ℕ) (at : ℕ) where
   unfolding recordAt
   cut-there h d l = rw (lt-leb (length b) at h, ne-eqb (lengthAt b at) 0 d, lt-ltb (length b - (at + 1)) (lengthAt b at) l)
 
-  pub whole-there : Whole b at → recordAt base b at ≡ recordOf base (kindAt b at) (readBody base (kindAt b at) (bodyAt b at))
+  pub whole-there : Whole b at → recordAt base b at ≡ recordOf (kindAt b at) (readBody base (kindAt b at) (bodyAt b at))
   unfolding recordAt
   whole-there w =
       rw (lt-leb (length b) at (w .inside), ne-eqb (lengthAt b at) 0 (w .known), le-ltb (length b - (at + 1)) (lengthAt b at) (w .room))

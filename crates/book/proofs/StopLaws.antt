@@ -36,12 +36,15 @@ use Rattle.dcf77.specs.Reader.{
 }
 use Rattle.book.specs.declared.Said.{Said}
 use Rattle.book.specs.declared.Said.the-variants.{Time, No}
-use Rattle.book.specs.declared.Record.the-variants.{Over, Stamped, Refused}
+use Rattle.book.specs.declared.Record.{Record}
+use Rattle.book.specs.declared.Record.the-variants.{Over, Accepted, Refused}
+use Rattle.book.specs.declared.Stamping.the-variants.{Stamped, Unstamped}
 use Rattle.book.specs.Body.{ofString, ofFrame, ofMinute, readBody, recordOf}
 use Rattle.book.specs.Book.{kindAt, bodyAt, recordAt}
+use Rattle.book.specs.Stamps.{stampingOf}
 use Rattle.book.proofs.PlaceLaws.{Whole, whole-there}
 use Rattle.book.proofs.BodyLaws.{stamped-or-12}
-use Rattle.book.proofs.BookLaws.{Place, beyond, strange, short, whole, place, turns, over-again, over-after-14, over-after-13}
+use Rattle.book.proofs.BookLaws.{Place, beyond, strange, short, whole, place, accepted-there, turns, over-again, over-after-14, over-after-13}
 
 -- ---- no reader finds a fault of the book
 
@@ -128,18 +131,13 @@ refused-whole base b at k x w e = go (readBody base kind (bodyAt b at)) refl
     kind : ℕ
     kind = kindAt b at
 
-    there : recordOf base kind (readBody base kind (bodyAt b at)) ≡ Refused k x
+    there : recordOf kind (readBody base kind (bodyAt b at)) ≡ Refused k x
     there = sym (whole-there base b at w) ∙ e
 
-    stamp-refused : (n : ℕ)
-        → (recordOf base kind (readBody base kind (bodyAt b at)) ≡ Stamped kind n)
-        ⊎ (recordOf base kind (readBody base kind (bodyAt b at)) ≡ Refused kind (number OutsideStamps))
-        → NotOwn x
-    stamp-refused n (inl s) = let f = there in let z : _≡_ {A = ℕ} 0 1 = cc in clash z
-    stamp-refused n (inr s) = let f = there in not-own OutsideStamps refl x (cc)
-
     go : (a : Said) → readBody base kind (bodyAt b at) ≡ a → NotOwn x
-    go (Time r) p = stamp-refused (stampNumber (utcOf r) (r .second)) (stamped-or-12 base kind (bodyAt b at) r p)
+    go (Time r) p =
+        let f : Accepted kind r ≡ Refused k x = rw p at there in
+        let z : _≡_ {A = ℕ} 0 1 = cc in clash z
     go (No y) p =
         let f : Refused kind y ≡ Refused k x = rw p at there in
         let same : y ≡ x = cc in
@@ -157,3 +155,25 @@ over-after-own base b at k x n e own = go (place b at) own
     go (short h d l) own = over-after-13 base b n at h d l .1
     go (whole w) (inl p) = absurd (refused-whole base b at k x w e .0 p)
     go (whole w) (inr p) = absurd (refused-whole base b at k x w e .1 p)
+
+-- and so does the answer with its stamp: an accepted body's stamp is refused by 12 alone
+pub over-after-own-listed : (base : ℕ) (b : List ℕ) (at k : ℕ) (x : Refusal) (n : ℕ)
+    → stampingOf base (recordAt base b at) ≡ Unstamped k x → (x ≡ number CutShort) ⊎ (x ≡ number UnknownKind)
+    → recordAt base b (turns b (suc n) at) ≡ Over
+over-after-own-listed base b at k x n e own = go (recordAt base b at) refl e
+  where
+    not-12 : NotOwn x → (x ≡ number CutShort) ⊎ (x ≡ number UnknownKind) → recordAt base b (turns b (suc n) at) ≡ Over
+    not-12 d (inl p) = absurd (d .0 p)
+    not-12 d (inr p) = absurd (d .1 p)
+
+    no-stamp : (kind m : ℕ) (r : Reading) → stampingOf base (Accepted kind r) ≡ Unstamped k x
+        → (stampingOf base (Accepted kind r) ≡ Stamped kind m) ⊎ (stampingOf base (Accepted kind r) ≡ Unstamped kind (number OutsideStamps))
+        → recordAt base b (turns b (suc n) at) ≡ Over
+    no-stamp kind m r f (inl s) = let z : _≡_ {A = ℕ} 0 1 = cc in clash z
+    no-stamp kind m r f (inr s) = not-12 (not-own OutsideStamps refl x (cc)) own
+
+    go : (found : Record) → recordAt base b at ≡ found → stampingOf base found ≡ Unstamped k x → recordAt base b (turns b (suc n) at) ≡ Over
+    go Over p f = let z : _≡_ {A = ℕ} 0 1 = cc in clash z
+    go (Accepted kind r) p f =
+        no-stamp kind (stampNumber (utcOf r) (r .second)) r f (stamped-or-12 base kind (bodyAt b at) r (accepted-there base b at kind r p .said))
+    go (Refused kind y) p f = over-after-own base b at k x n (cc) own

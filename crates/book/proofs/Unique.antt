@@ -19,6 +19,8 @@ use Rattle.book.proofs.next_at.Kinds as next-kinds
 use Rattle.book.proofs.next_at.Reads as next-reads
 use Rattle.book.proofs.first.Kinds as first-kinds
 use Rattle.book.proofs.first.Reads as first-reads
+use Rattle.book.proofs.stamps.stamping_of.Kinds as stamping-kinds
+use Rattle.book.proofs.stamps.stamping_of.Reads as stamping-reads
 use Rattle.book.proofs.body.body_length.Kinds as body-length-kinds
 use Rattle.book.proofs.body.body_length.Reads as body-length-reads
 use Rattle.book.proofs.body.read_body.Kinds as read-body-kinds
@@ -36,6 +38,9 @@ next-one κs a x y e f p q = cc
 
 pub first-one : Coincide 1 first-kinds.ps first-kinds.r first-reads.Post
 first-one κs a x y e f p q = cc
+
+pub stamping-one : Coincide 0 stamping-kinds.ps stamping-kinds.r stamping-reads.Post
+stamping-one κs a x y e f p q = cc
 
 -- For a function that is proved by hand rattle reads off no `Post`: its `ensures` is a fact of the result alone, in every
 -- model, and any two results of which the fact holds coincide.

@@ -3,9 +3,6 @@ use mathlib.Core.Bool.{cond}
 use mathlib.Core.List.{List}
 use Prim.Native.Nat.{ℕ}
 use lib.Dec.{eqb}
-use Rattle.reading.specs.declared.Stamp.{Stamp}
-use Rattle.reading.specs.declared.Stamp.the-variants.{At, Refused as NotStamped}
-use Rattle.reading.specs.Stamps.{stampOf}
 use Rattle.strings.specs.declared.Answer.{Answer as StringAnswer}
 use Rattle.strings.specs.declared.Answer.the-variants.{Time as StringTime, No as StringNo}
 use Rattle.irig.specs.declared.Answer.{Answer as FrameAnswer}
@@ -22,7 +19,7 @@ use Rattle.dcf77.specs.Reader.{readDcf77}
 use Rattle.book.specs.declared.Said.{Said}
 use Rattle.book.specs.declared.Said.the-variants.{Time, No}
 use Rattle.book.specs.declared.Record.{Record}
-use Rattle.book.specs.declared.Record.the-variants.{Stamped, Refused}
+use Rattle.book.specs.declared.Record.the-variants.{Accepted, Refused}
 
 -- "1 Meinberg 32, 2 Uni Erlangen 68, 3 IEEE 1344 100, 4 DCF77 60, 5 DCF77 61"; 0 for an unknown kind
 unfoldable pub bodyLength : ℕ → ℕ
@@ -52,12 +49,8 @@ readBody base kind s =
     (cond (eqb kind 2) (ofString (readErlangen base s))
     (cond (eqb kind 3) (ofFrame (readFrame base s)) (ofMinute (readDcf77 base s))))
 
--- the stamp of an accepted body, or why it has none
-abbrev pub stamped : ℕ → Stamp → Record
-stamped kind (At n) = Stamped kind n
-stamped kind (NotStamped x) = Refused kind x
-
--- the reader's refusal as it is; of an accepted body its stamp
-abbrev pub recordOf : ℕ → ℕ → Said → Record
-recordOf base kind (Time r) = stamped kind (stampOf base r)
-recordOf base kind (No x) = Refused kind x
+-- what its reader says of a body, with the kind. `Accepted`: the reader takes the body, and this is its reading; a stamp it need
+-- not have (case 9: "accepted, its stamp is code 12"). `Refused`: the reader's own code and place
+abbrev pub recordOf : ℕ → Said → Record
+recordOf kind (Time r) = Accepted kind r
+recordOf kind (No x) = Refused kind x

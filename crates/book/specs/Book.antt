@@ -34,12 +34,13 @@ unknown b at = eqb (lengthAt b at) 0
 abbrev pub cutShort : List ℕ → ℕ → Bool
 cutShort b at = ltb (length b - (at + 1)) (lengthAt b at)
 
--- what stands at a place, in a hundred of years that starts with a base year
+-- what stands at a place, in a hundred of years that starts with a base year: past the end that "the walk is over"; 14; 13;
+-- else "the body, starting in the middle of the book, is handed to its reader", and what that says is the answer
 unfoldable pub recordAt : ℕ → List ℕ → ℕ → Record
 recordAt base b at =
     cond (past b at) Over
     (cond (unknown b at) (Refused (kindAt b at) (number UnknownKind))
-    (cond (cutShort b at) (Refused (kindAt b at) (number CutShort)) (recordOf base (kindAt b at) (readBody base (kindAt b at) (bodyAt b at)))))
+    (cond (cutShort b at) (Refused (kindAt b at) (number CutShort)) (recordOf (kindAt b at) (readBody base (kindAt b at) (bodyAt b at)))))
 
 -- "A refused body doesn't stop the walk; after 13 or 14, as at the book's end," it goes to the end
 unfoldable pub nextAt : List ℕ → ℕ → ℕ

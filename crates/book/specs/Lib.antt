@@ -1,3 +1,4 @@
 pub mod Body
 pub mod Book
 pub mod Walking
+pub mod Stamps

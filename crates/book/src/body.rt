@@ -5,14 +5,12 @@ use dcf77::Dcf77;
 use erlangen::Erlangen;
 use irig::Ieee1344;
 use meinberg::Meinberg;
-use reading::Stamp;
-use reading::stamps::stamp_of;
 ghost use mathlib.Core.Path.{_≡_};
 ghost use Rattle.reading.specs.Years.{base};
-ghost use Rattle.book.specs.Body.{bodyLength, ofString, ofFrame, ofMinute, readBody, stamped, recordOf};
+ghost use Rattle.book.specs.Body.{bodyLength, ofString, ofFrame, ofMinute, readBody, recordOf};
 
 // 0 for an unknown kind.
-pub fn body_length(kind: u8) -> usize
+pub(crate) fn body_length(kind: u8) -> usize
     ensures { λ r. ⌜ r ≡ bodyLength kind ⌝ }
 {
     match kind {
@@ -53,7 +51,7 @@ fn of_minute(answer: dcf77::Answer) -> Said
 }
 
 // Where a kind is unknown no body is read; the definition gives such a body to the last reader.
-pub fn read_body(kind: u8, body: &[u8]) -> Said
+pub(crate) fn read_body(kind: u8, body: &[u8]) -> Said
     ensures { λ r. ⌜ r ≡ readBody base kind (now (body .entry)) ⌝ }
 {
     match kind {
@@ -64,21 +62,12 @@ pub fn read_body(kind: u8, body: &[u8]) -> Said
     }
 }
 
-fn stamped(kind: u8, stamp: Stamp) -> Record
-    ensures { λ r. ⌜ r ≡ stamped kind stamp ⌝ }
-{
-    match stamp {
-        Stamp::At(number) => Record::Stamped(kind, number),
-        Stamp::Refused(refusal) => Record::Refused(kind, refusal),
-    }
-}
-
-// "An accepted body whose stamp is refused" is refused too.
-pub fn record_of(kind: u8, said: Said) -> Record
-    ensures { λ r. ⌜ r ≡ recordOf base kind said ⌝ }
+// What its reader says of a body, with the kind.
+pub(crate) fn record_of(kind: u8, said: Said) -> Record
+    ensures { λ r. ⌜ r ≡ recordOf kind said ⌝ }
 {
     match said {
-        Said::Time(reading) => stamped(kind, stamp_of(reading)),
+        Said::Time(reading) => Record::Accepted(kind, reading),
         Said::No(refusal) => Record::Refused(kind, refusal),
     }
 }

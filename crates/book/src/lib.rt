@@ -1,6 +1,6 @@
 // A book of records: a byte of kind, then a body whose length the kind fixes. `record_at` and `next_at` take a book and
-// any place in it; a `Walk` holds a lent book with its place. Every public function takes any input and answers as the
-// definitions of specs/ say.
+// any place in it; a `Walk` holds a lent book with its place; `stamps` gives a record its stamp. Every public function
+// takes any input and answers as the definitions of specs/ say.
 use reading::Fault;
 use reading::Reading;
 use reading::Refusal;
@@ -14,6 +14,7 @@ ghost use Rattle.book.specs.Book.{recordAt, nextAt};
 ghost use Rattle.book.specs.Walking.{walkOver, turned};
 
 mod body;
+pub mod stamps;
 
 // What the reader of a body says of it: its time, or why there is none.
 pub enum Said {
@@ -21,12 +22,19 @@ pub enum Said {
     No(Refusal),
 }
 
-// What stands at a place of a book: nothing, as it is past the end, or a record with its kind, which has a stamp or is
-// refused.
+// What stands at a place of a book: nothing, as it is past the end, or a record with its kind, whose body is accepted with
+// its reading or refused. An accepted body may still have no stamp.
 pub enum Record {
     Over,
-    Stamped(u8, u64),
+    Accepted(u8, Reading),
     Refused(u8, Refusal),
+}
+
+// A record as it is listed: the kind with the stamp of an accepted body, or with the refusal of the body or of its stamp.
+pub enum Stamping {
+    Over,
+    Stamped(u8, u64),
+    Unstamped(u8, Refusal),
 }
 
 // A body of n bytes that starts at `start` in the middle of the book.
@@ -64,15 +72,15 @@ pub fn next_at(book: &[u8], at: usize) -> usize
     if book.len() <= at {
         return book.len();
     }
-    let n = body::body_length(book[at]);
-    if n == 0 {
+    let length = body::body_length(book[at]);
+    if length == 0 {
         return book.len();
     }
     let start = at + 1;
-    if book.len() - start < n {
+    if book.len() - start < length {
         return book.len();
     }
-    start + n
+    start + length
 }
 
 // A walk over a lent book.

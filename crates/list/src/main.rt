@@ -4,10 +4,13 @@
 use libc::STDERR_FILENO;
 use libc::STDIN_FILENO;
 use libc::STDOUT_FILENO;
+use listing::LARGEST_BOOK;
+use listing::ROOM;
 use reading::Written;
 ghost use mathlib.Core.Path.{_≡_};
-ghost use Prim.Native.Nat.{_≤_};
+ghost use Prim.Native.Nat.{_+_, _≤_};
 ghost use lib.ListN.{length};
+ghost use Rattle.listing.specs.Listing.{largestBook, roomForAny};
 ghost use Rattle.list.specs.Input.{Within};
 
 // What came of reading: how many bytes, or that a read failed.
@@ -17,16 +20,18 @@ enum Input {
 }
 
 // The largest book that is listed, and a byte more, which tells a book that is too long.
-fn space_for_book() -> [u8; 65537]
-    ensures { λ r. ⌜ 65537 ≡ length r ⌝ }
+const SPACE: usize = LARGEST_BOOK + 1;
+
+fn space_for_book() -> [u8; SPACE]
+    ensures { λ r. ⌜ largestBook + 1 ≡ length r ⌝ }
 {
-    [0; 65537]
+    [0; SPACE]
 }
 
-fn space_for_listing() -> [u8; 262144]
-    ensures { λ r. ⌜ 262144 ≡ length r ⌝ }
+fn space_for_listing() -> [u8; ROOM]
+    ensures { λ r. ⌜ roomForAny ≡ length r ⌝ }
 {
-    [0; 262144]
+    [0; ROOM]
 }
 
 // Reads until the space is full or the input ends. A read may give fewer bytes than it was asked for.
@@ -48,15 +53,24 @@ fn read_book(space: &mut [u8]) -> Input
     Input::Bytes(done)
 }
 
-fn write_listing(book: &[u8], page: &mut [u8]) {
-    if let Written::Length(n) = listing::list(book, page) {
-        if !io::write_all(STDOUT_FILENO, &page[..n]) {
-            io::write_all(STDERR_FILENO, b"list: standard output cannot be written\n");
-        }
+fn write_out(text: &[u8]) {
+    if !io::write_all(STDOUT_FILENO, text) {
+        io::write_all(STDERR_FILENO, b"list: standard output cannot be written\n");
     }
 }
 
-fn list_input(space: &mut [u8], page: &mut [u8]) {
+// A page of this length is never refused.
+fn write_listing(book: &[u8], page: &mut [u8])
+    requires { ⌜ roomForAny ≤ length (now page) ⌝ }
+{
+    if let Written::Length(n) = listing::list(book, page) {
+        write_out(&page[..n]);
+    }
+}
+
+fn list_input(space: &mut [u8], page: &mut [u8])
+    requires { ⌜ roomForAny ≤ length (now page) ⌝ }
+{
     if let Input::Bytes(n) = read_book(space) {
         write_listing(&space[..n], page);
         return;

@@ -8,22 +8,28 @@ use lib.ListN.{length}
 use Rattle.wire.specs.Put.{stored}
 use Rattle.wire.proofs.StoreLaws.{stored-length, stored-nothing}
 use Rattle.book.specs.Book.{recordAt, nextAt, recordsFrom, records}
+use Rattle.book.specs.declared.Stamping.{Stamping}
+use Rattle.book.specs.Stamps.{stampingOf}
 use Rattle.book.proofs.BookLaws.{records-step, records-end}
 use Rattle.listing.specs.Listing.{lineAt, linesOf}
 use Rattle.listing.proofs.PutLaws.{first-room, both-end, both-held}
 
 module _ (base : ℕ) (b : List ℕ) where
+  -- what is listed at a place
+  abbrev pub foundAt : ℕ → Stamping
+  foundAt at = stampingOf base (recordAt base b at)
+
   -- the lines from a place on
   abbrev pub linesFrom : ℕ → List ℕ
-  linesFrom at = linesOf (recordsFrom base b at)
+  linesFrom at = linesOf base (recordsFrom base b at)
 
-  pub lines-step : (at : ℕ) → at < length b → linesFrom at ≡ lineAt at (recordAt base b at) ++ linesFrom (nextAt b at)
+  pub lines-step : (at : ℕ) → at < length b → linesFrom at ≡ lineAt at (foundAt at) ++ linesFrom (nextAt b at)
   unfolding linesOf
-  lines-step at h = ap linesOf (records-step base b at h)
+  lines-step at h = ap (linesOf base) (records-step base b at h)
 
   pub lines-end : (at : ℕ) → length b ≤ at → linesFrom at ≡ []
   unfolding linesOf
-  lines-end at h = ap linesOf (records-end base b at h)
+  lines-end at h = ap (linesOf base) (records-end base b at h)
 
   -- what the loop knows: storing the lines that are left gives what storing all of them gave
   pub record Listed (l : List ℕ) (start : ℕ) (m : List ℕ) (end at : ℕ) : Type 0 where
@@ -34,17 +40,17 @@ module _ (base : ℕ) (b : List ℕ) where
   module _
       (l : List ℕ) (start : ℕ) (m : List ℕ) (end at : ℕ) (room : start + length (linesFrom 0) ≤ length l)
       (s : Listed l start m end at) where
-    pub turn-room : at < length b → end + length (lineAt at (recordAt base b at) ++ linesFrom (nextAt b at)) ≤ length m
+    pub turn-room : at < length b → end + length (lineAt at (foundAt at) ++ linesFrom (nextAt b at)) ≤ length m
     turn-room h = omega (arith, s .ends, s .long, ap length (lines-step at h))
 
-    pub line-room : at < length b → end + length (lineAt at (recordAt base b at)) ≤ length m
-    line-room h = first-room end (lineAt at (recordAt base b at)) (linesFrom (nextAt b at)) m (turn-room h)
+    pub line-room : at < length b → end + length (lineAt at (foundAt at)) ≤ length m
+    line-room h = first-room end (lineAt at (foundAt at)) (linesFrom (nextAt b at)) m (turn-room h)
 
     pub turn : at < length b → (r : ℕ) (n : List ℕ)
-        → r ≡ end + length (lineAt at (recordAt base b at)) → n ≡ stored end (lineAt at (recordAt base b at)) m
+        → r ≡ end + length (lineAt at (foundAt at)) → n ≡ stored end (lineAt at (foundAt at)) m
         → Listed l start n r (nextAt b at)
     turn h r n e k =
-        let line = lineAt at (recordAt base b at) in
+        let line = lineAt at (foundAt at) in
         let rest = linesFrom (nextAt b at) in
         let both = both-end end line rest m (turn-room h) r n e k (r + length rest) refl in
         let held = both-held end line rest m (turn-room h) r n e k (stored r rest n) refl in

@@ -16,9 +16,9 @@ use Rattle.reading.specs.Writing.{writtenOf}
 use Rattle.reading.proofs.CheckLaws.{clash}
 use Rattle.text.specs.Decimal.{decimal}
 use Rattle.text.proofs.DecimalLaws.{decimal-length}
-use Rattle.book.specs.declared.Record.{Record}
-use Rattle.book.specs.declared.Record.the-variants.{Over, Stamped, Refused}
-use Rattle.book.specs.Book.{kindAt, recordAt, nextAt, records}
+use Rattle.book.specs.declared.Stamping.{Stamping}
+use Rattle.book.specs.declared.Stamping.the-variants.{Over, Stamped, Unstamped}
+use Rattle.book.specs.Book.{kindAt, nextAt, records}
 use Rattle.book.proofs.PlaceLaws.{known-long, from-unknown, from-cut, from-whole}
 use Rattle.book.proofs.BookLaws.{Place, beyond, strange, short, whole, place, next-inside}
 use Rattle.listing.specs.Listing.{
@@ -38,18 +38,18 @@ use Rattle.listing.specs.Listing.{
   roomForAny,
   roomFault,
 }
-use Rattle.listing.proofs.LineLaws.{linesFrom, lines-step, lines-end}
+use Rattle.listing.proofs.LineLaws.{foundAt, linesFrom, lines-step, lines-end}
 
 -- ---- a line
 
 field-length : (n : ℕ) (behind : List ℕ) → length (field n behind) ≤ 20 + length behind
 field-length n behind = omega (arith, length-append (decimal n) behind, decimal-length n)
 
-found-length : (found : Record) → length (foundText found) ≤ 66
+found-length : (found : Stamping) → length (foundText found) ≤ 66
 found-length Over = omega arith
 found-length (Stamped kind stamp) =
     omega (arith, length-append (field kind okWord) (field stamp zeroAtEnd), field-length kind okWord, field-length stamp zeroAtEnd)
-found-length (Refused kind x) =
+found-length (Unstamped kind x) =
     omega (
       arith,
       length-append (field kind noWord) (field (x .code) blank),
@@ -59,7 +59,7 @@ found-length (Refused kind x) =
       field-length (x .place) lineFeed,
     )
 
-pub line-length : (at : ℕ) (found : Record) → length (lineAt at found) ≤ 87
+pub line-length : (at : ℕ) (found : Stamping) → length (lineAt at found) ≤ 87
 unfolding lineAt
 line-length at found = omega (arith, length-append (field at blank) (foundText found), field-length at blank, found-length found)
 
@@ -72,8 +72,8 @@ module _ (base : ℕ) (b : List ℕ) where
 
   after : (at : ℕ) → at < length b → 33 * length (linesFrom base b (nextAt b at)) + 2871 ≤ 87 * (length b - at) + 2871 → Short at
   after at i h =
-      let line = line-length at (recordAt base b at) in
-      let both = length-append (lineAt at (recordAt base b at)) (linesFrom base b (nextAt b at)) in
+      let line = line-length at (foundAt base b at) in
+      let both = length-append (lineAt at (foundAt base b at)) (linesFrom base b (nextAt b at)) in
       omega (arith, ap length (lines-step base b at i))
 
   last : (at : ℕ) → at < length b → length b ≤ nextAt b at → Short at
@@ -96,11 +96,11 @@ module _ (base : ℕ) (b : List ℕ) where
 
   -- ---- the listing
 
-  pub body-too-long : largestBook < length b → bodyText base b ≡ lineAt 0 (Refused 0 (number Length))
+  pub body-too-long : largestBook < length b → bodyText base b ≡ lineAt 0 (Unstamped 0 (number Length))
   unfolding bodyText
   body-too-long h = rw (lt-leb (length b) largestBook h)
 
-  pub body-listed : length b ≤ largestBook → bodyText base b ≡ linesOf (records base b)
+  pub body-listed : length b ≤ largestBook → bodyText base b ≡ linesOf base (records base b)
   unfolding bodyText
   body-listed h = rw (le-leb (length b) largestBook h)
 
@@ -109,7 +109,7 @@ module _ (base : ℕ) (b : List ℕ) where
     where
       go : Dec (length b ≤ largestBook) → length (bodyText base b) + length header ≤ roomForAny
       go (yes h) = omega (arith, ap length (body-listed h), lines-length (length b) 0 (omega arith))
-      go (no n) = omega (arith, ap length (body-too-long (omega arith)), line-length 0 (Refused 0 (number Length)))
+      go (no n) = omega (arith, ap length (body-too-long (omega arith)), line-length 0 (Unstamped 0 (number Length)))
 
   pub listing-fits : length (listing base b) ≤ roomForAny
   unfolding listing

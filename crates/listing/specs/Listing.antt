@@ -9,9 +9,10 @@ use Rattle.reading.specs.declared.Verdict.{Verdict}
 use Rattle.reading.specs.declared.Verdict.the-variants.{Good, Bad}
 use Rattle.reading.specs.Faults.{number}
 use Rattle.text.specs.Decimal.{decimal}
-use Rattle.book.specs.declared.Record.{Record}
-use Rattle.book.specs.declared.Record.the-variants.{Over, Stamped, Refused}
+use Rattle.book.specs.declared.Stamping.{Stamping}
+use Rattle.book.specs.declared.Stamping.the-variants.{Over, Stamped, Unstamped}
 use Rattle.book.specs.Book.{Entry, records}
+use Rattle.book.specs.Stamps.{stampingOf}
 
 -- `at kind answer value place` and a line feed
 abbrev pub header : List ℕ
@@ -48,19 +49,19 @@ abbrev pub lineFeed : List ℕ
 lineFeed = 10 ∷ []
 
 -- "kind in decimal, `ok` with stamp and 0, or `no` with code and place"; nothing where there is no record
-abbrev pub foundText : Record → List ℕ
+abbrev pub foundText : Stamping → List ℕ
 foundText Over = []
 foundText (Stamped kind stamp) = field kind okWord ++ field stamp zeroAtEnd
-foundText (Refused kind refusal) = field kind noWord ++ field (refusal .code) blank ++ field (refusal .place) lineFeed
+foundText (Unstamped kind refusal) = field kind noWord ++ field (refusal .code) blank ++ field (refusal .place) lineFeed
 
 -- "offset of the kind byte", then what was found there
-unfoldable pub lineAt : ℕ → Record → List ℕ
+unfoldable pub lineAt : ℕ → Stamping → List ℕ
 lineAt at found = field at blank ++ foundText found
 
--- "a line a record"
-unfoldable pub linesOf : List Entry → List ℕ
-linesOf [] = []
-linesOf (e ∷ l) = lineAt (e .place) (e .found) ++ linesOf l
+-- "a line a record", each with its stamp
+unfoldable pub linesOf : ℕ → List Entry → List ℕ
+linesOf base [] = []
+linesOf base (e ∷ l) = lineAt (e .place) (stampingOf base (e .found)) ++ linesOf base l
 
 -- "at most 65,536 bytes"
 abbrev pub largestBook : ℕ
@@ -68,7 +69,7 @@ largestBook = 65536
 
 -- "A longer book gives the header and `0 0 no 1 0`."
 unfoldable pub bodyText : ℕ → List ℕ → List ℕ
-bodyText base b = cond (leb (length b) largestBook) (linesOf (records base b)) (lineAt 0 (Refused 0 (number Length)))
+bodyText base b = cond (leb (length b) largestBook) (linesOf base (records base b)) (lineAt 0 (Unstamped 0 (number Length)))
 
 -- "Header, then a line a record"
 unfoldable pub listing : ℕ → List ℕ → List ℕ

@@ -1,7 +1,8 @@
 // The listing of a book as text in a lent buffer: a header, then a line a record.
-use book::Record;
+use book::Stamping;
 use book::next_at;
 use book::record_at;
+use book::stamps::stamping_of;
 use reading::Fault;
 use reading::Refusal;
 use reading::Written;
@@ -14,7 +15,7 @@ ghost use lib.ListN.{length};
 ghost use Rattle.reading.specs.Years.{base};
 ghost use Rattle.reading.specs.Writing.{writtenOf, filled};
 ghost use Rattle.wire.specs.Put.{stored};
-ghost use Rattle.book.specs.declared.Record.the-variants.{Stamped, Refused};
+ghost use Rattle.book.specs.declared.Stamping.the-variants.{Stamped, Unstamped};
 ghost use Rattle.book.specs.Book.{records};
 ghost use Rattle.listing.specs.Listing.{field, foundText, lineAt, linesOf, bodyText, listing, roomFault};
 
@@ -54,29 +55,29 @@ fn put_stamped(out: &mut [u8], at: usize, kind: u8, stamp: u64) -> usize
 }
 
 fn put_refused(out: &mut [u8], at: usize, kind: u8, refusal: Refusal) -> usize
-    requires { ⌜ at + length (foundText (Refused kind refusal)) ≤ length (now out) ⌝ }
-    ensures { λ r. ⌜ r ≡ at + length (foundText (Refused kind refusal)) ⌝ }
-    ensures { λ r. ⌜ now (out .exit) ≡ stored at (foundText (Refused kind refusal)) (now (out .entry)) ⌝ }
+    requires { ⌜ at + length (foundText (Unstamped kind refusal)) ≤ length (now out) ⌝ }
+    ensures { λ r. ⌜ r ≡ at + length (foundText (Unstamped kind refusal)) ⌝ }
+    ensures { λ r. ⌜ now (out .exit) ≡ stored at (foundText (Unstamped kind refusal)) (now (out .entry)) ⌝ }
 {
     let code = put_number(out, at, kind as u64, b" no ");
     let place = put_number(out, code, refusal.code as u64, b" ");
     put_number(out, place, refusal.place as u64, b"\n")
 }
 
-fn put_found(out: &mut [u8], at: usize, found: Record) -> usize
+fn put_found(out: &mut [u8], at: usize, found: Stamping) -> usize
     requires { ⌜ at + length (foundText found) ≤ length (now out) ⌝ }
     ensures { λ r. ⌜ r ≡ at + length (foundText found) ⌝ }
     ensures { λ r. ⌜ now (out .exit) ≡ stored at (foundText found) (now (out .entry)) ⌝ }
 {
     match found {
-        Record::Over => put(out, at, b""),
-        Record::Stamped(kind, stamp) => put_stamped(out, at, kind, stamp),
-        Record::Refused(kind, refusal) => put_refused(out, at, kind, refusal),
+        Stamping::Over => put(out, at, b""),
+        Stamping::Stamped(kind, stamp) => put_stamped(out, at, kind, stamp),
+        Stamping::Unstamped(kind, refusal) => put_refused(out, at, kind, refusal),
     }
 }
 
 // Stores the line of what was found at a place of a book.
-fn put_line(out: &mut [u8], at: usize, place: usize, found: Record) -> usize
+fn put_line(out: &mut [u8], at: usize, place: usize, found: Stamping) -> usize
     requires { ⌜ at + length (lineAt place found) ≤ length (now out) ⌝ }
     ensures { λ r. ⌜ r ≡ at + length (lineAt place found) ⌝ }
     ensures { λ r. ⌜ now (out .exit) ≡ stored at (lineAt place found) (now (out .entry)) ⌝ }
@@ -87,14 +88,14 @@ fn put_line(out: &mut [u8], at: usize, place: usize, found: Record) -> usize
 
 // Stores the lines of all the records of a book.
 fn put_records(out: &mut [u8], start: usize, book: &[u8]) -> usize
-    requires { ⌜ start + length (linesOf (records base (now book))) ≤ length (now out) ⌝ }
-    ensures { λ r. ⌜ r ≡ start + length (linesOf (records base (now (book .entry)))) ⌝ }
-    ensures { λ r. ⌜ now (out .exit) ≡ stored start (linesOf (records base (now (book .entry)))) (now (out .entry)) ⌝ }
+    requires { ⌜ start + length (linesOf base (records base (now book))) ≤ length (now out) ⌝ }
+    ensures { λ r. ⌜ r ≡ start + length (linesOf base (records base (now (book .entry)))) ⌝ }
+    ensures { λ r. ⌜ now (out .exit) ≡ stored start (linesOf base (records base (now (book .entry)))) (now (out .entry)) ⌝ }
 {
     let mut end = start;
     let mut at = 0;
     while at < book.len() {
-        end = put_line(out, end, at, record_at(book, at));
+        end = put_line(out, end, at, stamping_of(record_at(book, at)));
         at = next_at(book, at);
     }
     end
@@ -106,7 +107,12 @@ fn put_body(out: &mut [u8], start: usize, book: &[u8]) -> usize
     ensures { λ r. ⌜ now (out .exit) ≡ stored start (bodyText base (now (book .entry))) (now (out .entry)) ⌝ }
 {
     if LARGEST_BOOK < book.len() {
-        return put_line(out, start, 0, Record::Refused(0, refusal_of(Fault::Length)));
+        return put_line(
+            out,
+            start,
+            0,
+            Stamping::Unstamped(0, refusal_of(Fault::Length)),
+        );
     }
     put_records(out, start, book)
 }

@@ -1,7 +1,7 @@
 -- `listing::put_found` meets its contract: each case stores its own text. Assumes nothing.
 use borrow.Author.Needs.{needs}
 use mathlib.Core.Path.{_≡_}
-use Rattle.book.specs.declared.Record.the-variants.{Over}
+use Rattle.book.specs.declared.Stamping.the-variants.{Over}
 use Rattle.listing.proofs.put_found.Statement.{statement}
 use Rattle.listing.proofs.put_found.Tie as tie
 

@@ -2,11 +2,12 @@
 -- Assumes nothing.
 use native.Mathlib.Omega.{arith}
 use borrow.Author.Needs.{needs}
-use mathlib.Core.Path.{_≡_, refl}
+use mathlib.Core.Path.{_≡_, refl, ap, _∙_}
 use Prim.Native.Nat.{_-_, _≤_, _<_}
 use denote.Ref.{now}
 use lib.ListN.{length}
 use Rattle.reading.specs.Years.{base}
+use Rattle.book.specs.Stamps.{stampingOf}
 use Rattle.book.proofs.BookLaws.{next-rises}
 use Rattle.listing.proofs.LineLaws.{Listed, line-room, turn, done-end, done-held}
 use Rattle.listing.proofs.put_records.Statement.{statement}
@@ -24,20 +25,23 @@ loop-holds c = record { left = refl; ends = refl; long = refl }
 record-at-requires : tie.Need-record-at-requires Inv-loop μ-loop
 record-at-requires c κs = search needs
 
+stamping-of-requires : tie.Need-stamping-of-requires Inv-loop μ-loop
+stamping-of-requires c κs = search needs
+
 put-line-requires : tie.Need-put-line-requires Inv-loop μ-loop
 put-line-requires c κs =
-    let l = c .before .before .before .loop in
-    let s = c .before .before .before .before .before .before in
+    let l = c .before .before .before .before .loop in
+    let s = c .before .before .before .before .before .before .before in
     let h : l .at < length (now (s .args .book)) = omega arith in
-    rw (c .record-at .ensures) (line-room base (now (s .args .book)) (now (s .args .out)) (s .args .start) (l .out) (l .end) (l .at) (s .pre) (l .inv) h)
+    rw (c .stamping-of .ensures, c .before .record-at .ensures) (line-room base (now (s .args .book)) (now (s .args .out)) (s .args .start) (l .out) (l .end) (l .at) (s .pre) (l .inv) h)
 
 next-at-requires : tie.Need-next-at-requires Inv-loop μ-loop
 next-at-requires c κs = search needs
 
 loop-less : tie.Need-loop-less Inv-loop μ-loop
 loop-less c =
-    let l = c .before .before .before .before .before .before .before .loop in
-    let s = c .before .before .before .before .before .before .before .before .before .before in
+    let l = c .before .before .before .before .before .before .before .before .loop in
+    let s = c .before .before .before .before .before .before .before .before .before .before .before in
     let h : l .at < length (now (s .args .book)) = omega arith in
     let r = next-rises (now (s .args .book)) (l .at) h in
     let e = c .next-at .ensures in
@@ -45,10 +49,10 @@ loop-less c =
 
 loop-again : tie.Need-loop-again Inv-loop μ-loop
 loop-again c =
-    let l = c .before .before .before .before .before .before .before .loop in
-    let s = c .before .before .before .before .before .before .before .before .before .before in
+    let l = c .before .before .before .before .before .before .before .before .loop in
+    let s = c .before .before .before .before .before .before .before .before .before .before .before in
     let h : l .at < length (now (s .args .book)) = omega arith in
-    let f = c .before .before .before .before .record-at .ensures in
+    let f = c .before .before .before .before .stamping-of .ensures ∙ ap (stampingOf base) (c .before .before .before .before .before .record-at .ensures) in
     let p = c .before .before .before .put-line .ensures in
     rw (c .next-at .ensures) (turn base (now (s .args .book)) (now (s .args .out)) (s .args .start) (l .out) (l .end) (l .at) (s .pre) (l .inv) h _ _ (rw f at (p .0)) (rw f at (p .1)))
 
@@ -70,6 +74,7 @@ put-records-spec =
     μ-loop
     loop-holds
     record-at-requires
+    stamping-of-requires
     put-line-requires
     next-at-requires
     loop-less

@@ -6,28 +6,14 @@ use Rattle.book.proofs.body.record_of.Tie as tie
 enum-known-said : tie.Need-enum-known-said
 enum-known-said c = search needs
 
-stamp-of-requires : tie.Need-stamp-of-requires
-stamp-of-requires c κs = search needs
-
-stamped-requires : tie.Need-stamped-requires
-stamped-requires c κs = search needs
-
 enum-known-said-2 : tie.Need-enum-known-said-2
 enum-known-said-2 c = search needs
 
 returns : tie.Need-returns
-returns c = rw (c .stamped .ensures, c .before .stamp-of .ensures, c .before .before .before .said .given .1)
+returns c = rw (c .before .said .given .1)
 
 returns-2 : tie.Need-returns-2
 returns-2 c = rw (c .before .said2 .given .1)
 
 pub record-of-spec : {M : Type 1} → statement M
-record-of-spec =
-    tie.close
-    (tie.spec
-    enum-known-said
-    stamp-of-requires
-    stamped-requires
-    enum-known-said-2
-    returns
-    returns-2)
+record-of-spec = tie.close (tie.spec enum-known-said enum-known-said-2 returns returns-2)
