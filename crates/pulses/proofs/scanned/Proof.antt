@@ -2,7 +2,6 @@
 use borrow.Author.Needs.{needs}
 use native.Mathlib.Omega.{arith}
 use Prim.Native.Nat.{_≤_, _-_}
-use denote.Ref.{now}
 use Rattle.pulses.proofs.ScanLaws.{Passed, passed-none, fixed-stops, fixed-more, data-stops, data-more, passed-all}
 use Rattle.pulses.proofs.scanned.Statement.{statement}
 use Rattle.pulses.proofs.scanned.Tie as tie
