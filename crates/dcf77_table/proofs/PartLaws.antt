@@ -5,10 +5,10 @@ use mathlib.Core.Path.{_≡_, refl, sym, ap, _∙_}
 use Prim.Native.Nat.{ℕ, suc, _+_, _-_, _<_, _≤_}
 use native.Mathlib.Omega.{arith}
 use borrow.Author.Tests.{eq-eqb}
-use lib.Dec.{T, leb, eqb, leb→le, eqb→eq}
+use lib.Dec.{T, leb, eqb, eqb→eq}
 use lib.ListN.{length, getD}
 use Rattle.laws.proofs.Bools.{where-so, then, holds}
-use Rattle.laws.proofs.Tested.{below, at, and-left}
+use Rattle.laws.proofs.Tested.{below, at}
 use Rattle.pulses.specs.Row.{groups, firstData, groupOf, weightOf, pulseFor, row, onesFrom}
 use Rattle.pulses.proofs.EntryLaws.{group-small, pulse-for-same, pulse-data}
 use Rattle.pulses.proofs.RowLaws.{Alone, pulse-at}
@@ -79,10 +79,6 @@ date-part =
 mark-at : (long : Bool) (v : List ℕ) (i : ℕ) → i < 59 → getD (row (minuteMarks long) v) i 0 ≡ pulseFor (getD sharedMarks i 0) v
 mark-at long v i h =
     pulse-at (minuteMarks long) v i (omega (arith, long-enough long)) ∙ ap (λ (e : ℕ). pulseFor e v) (marks-shared long i (omega (arith, shared-length)))
-
-plain-known : (g : ℕ) → T (isPlain g) → firstData ≤ g
-unfolding isPlain
-plain-known g t = leb→le firstData g (and-left (leb firstData g) _ t)
 
 module _ {a b g : ℕ} (p : Part a b g) (long : Bool) where
   -- the ones of the data go by the plain values alone, in both forms

@@ -20,8 +20,9 @@ use Rattle.reading.specs.Offset.{opposite}
 use Rattle.reading.specs.Universal.{dateOf}
 use Rattle.reading.proofs.YearLaws.{digits-of, year-in}
 use Rattle.reading.proofs.CheckLaws.{Checked}
-use Rattle.pulses.specs.Row.{groups, firstData, groupOf, pulsesIn}
-use Rattle.irig_table.specs.Table.{framePulses, leapPending, deletion, changePending, summer, minus, offsetHours, halfHour, quality, parity}
+use Rattle.pulses.specs.Row.{groups, firstData}
+use Rattle.irig_table.specs.Table.{leapPending, deletion, changePending, summer, minus, offsetHours, halfHour, quality, parity}
+use Rattle.irig_table.proofs.TableLaws.{widths}
 use Rattle.irig.specs.Offset.{isMinus, halvesOf}
 use Rattle.irig.specs.Meaning.{said, isSet, secondIn, minuteIn, hourIn, dayIn, digitsIn, halvesIn, addedIn, yearIn, monthDayIn, readingOf}
 use Rattle.irig.specs.Writing.{bit, groupsOf, valuesOf}
@@ -45,13 +46,13 @@ is-date t p =
     rw (le-leb 1 (t .month) (m .0), le-leb (t .month) 12 (m .1), le-leb 1 (t .day) (p .one), le-leb (t .day) (daysIn (leapYear (t .year)) (t .month)) (p .last))
 
 -- the groups from 24 on have no pulses
-no-pulses : T (below (λ k. eqb (pulsesIn framePulses (k + 24)) 0) 8)
-unfolding pulsesIn groupOf framePulses
+no-pulses : T (below (λ k. eqb (getD widths (k + 24) 0) 0) 8)
+unfolding widths
 no-pulses = tt
 
 nothing-said : (v : List ℕ) → Values v → (k : ℕ) → k < 8 → said v (k + 24) ≡ 0
 nothing-said v w k h =
-    let e = eqb→eq _ 0 (at (λ k. eqb (pulsesIn framePulses (k + 24)) 0) 8 no-pulses k h) in
+    let e = eqb→eq _ 0 (at (λ k. eqb (getD widths (k + 24) 0) 0) 8 no-pulses k h) in
     let f : said v (k + 24) < 2 ^ 0 = subst (λ (n : ℕ). said v (k + 24) < 2 ^ n) e (w .fits (k + 24) (omega arith) (omega arith)) in
     omega arith
 
@@ -84,7 +85,7 @@ module _ (base : ℕ) (v : List ℕ) (w : Values v) (d : Digits v) (s : Sound ba
 
   -- what the groups can say
   bounds : Bounds v
-  unfolding pulsesIn groupOf framePulses
+  unfolding widths
   bounds = record {
     leap = w .fits leapPending (omega arith) (omega arith);
     deleted = w .fits deletion (omega arith) (omega arith);

@@ -12,12 +12,12 @@ use Rattle.reading.specs.declared.Reading.{Reading}
 use Rattle.reading.specs.declared.Verdict.{Verdict}
 use Rattle.reading.specs.declared.Verdict.the-variants.{Good, Bad}
 use Rattle.reading.proofs.CheckLaws.{first-good, clash, Checked}
-use Rattle.pulses.specs.Row.{groupOf, goodPulses, sumsOf, row, pulsesIn, onesFrom}
+use Rattle.pulses.specs.Row.{goodPulses, sumsOf, row, onesFrom}
 use Rattle.pulses.proofs.GoodLaws.{good-in-table}
 use Rattle.pulses.proofs.RowLaws.{row-good}
 use Rattle.pulses.proofs.TripLaws.{written-sums}
 use Rattle.irig_table.specs.Table.{framePulses, parity}
-use Rattle.irig_table.proofs.TableLaws.{frame-length, frame-sound}
+use Rattle.irig_table.proofs.TableLaws.{frame-length, frame-sound, widths}
 use Rattle.irig.specs.declared.Answer.the-variants.{Time}
 use Rattle.irig.specs.Meaning.{said, readingOf}
 use Rattle.irig.specs.Faults.{frameLength, parityPlace, isOdd, faultIn, answerOf, readFrame}
@@ -113,7 +113,7 @@ module _ (base : ℕ) (s : List ℕ) (r : Reading) (a : Accepted base s r) where
       ∙ written-sums framePulses frame-sound s (omega (arith, frame-length)) (a .long ∙ sym frame-length) (a .good ∙ sym frame-length)
 
   one-pulse : said v parity < 2
-  unfolding v pulsesIn groupOf framePulses
+  unfolding v widths
   one-pulse = sums-fit s .fits parity (omega arith) (omega arith)
 
   last-pulse : getD s parityPlace 0 ≡ said v parity

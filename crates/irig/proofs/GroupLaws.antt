@@ -15,7 +15,7 @@ use Rattle.pulses.specs.Row.{groups, firstData, groupOf, weightOf, shareOf, sum
 use Rattle.pulses.proofs.SumLaws.{sums-at, length-sums}
 use Rattle.pulses.proofs.TripLaws.{sum-small, read-written}
 use Rattle.irig_table.specs.Table.{framePulses, parity}
-use Rattle.irig_table.proofs.TableLaws.{frame-length, frame-sound}
+use Rattle.irig_table.proofs.TableLaws.{frame-length, frame-sound, widths, frame-widths}
 use Rattle.irig.specs.Meaning.{said, Small}
 
 -- what group g of a frame says is the sum of its pulses
@@ -26,17 +26,18 @@ said-sum s g h = sums-at framePulses s g (omega (arith, frame-length)) h
 
 -- the groups of a field, but for the second of the day, have four pulses at most
 narrow : ℕ → Bool
-narrow k = leb (pulsesIn framePulses (firstData + k)) 4
+narrow k = leb (getD widths (firstData + k) 0) 4
 
 all-narrow : T (below narrow 20)
-unfolding narrow pulsesIn groupOf framePulses
+unfolding narrow widths
 all-narrow = tt
 
 four : (g : ℕ) → firstData ≤ g → g ≤ parity → pulsesIn framePulses g ≤ 4
 unfolding narrow
 four g h k =
     let e : firstData + (g - firstData) ≡ g = omega arith in
-    subst (λ (n : ℕ). pulsesIn framePulses n ≤ 4) e (leb→le _ 4 (at narrow 20 all-narrow (g - firstData) (omega arith)))
+    rw (frame-widths g (omega arith))
+    (subst (λ (n : ℕ). getD widths n 0 ≤ 4) e (leb→le _ 4 (at narrow 20 all-narrow (g - firstData) (omega arith))))
 
 pub sums-small : (s : List ℕ) → Small (sumsOf framePulses s)
 sums-small s g h k =
@@ -74,14 +75,14 @@ all-weightless = tt
 pub record Values (v : List ℕ) : Type 0 where
   pub long : length v ≡ groups
   pub none : (g : ℕ) → g < firstData → getD v g 0 ≡ 0
-  pub fits : (g : ℕ) → firstData ≤ g → g < groups → getD v g 0 < 2 ^ pulsesIn framePulses g
+  pub fits : (g : ℕ) → firstData ≤ g → g < groups → getD v g 0 < 2 ^ getD widths g 0
 
 -- what a frame's pulses add up to is so, whatever they are
 pub sums-fit : (s : List ℕ) → Values (sumsOf framePulses s)
 sums-fit s = record {
   long = length-sums framePulses s;
   none = λ g h. said-sum s g (omega arith) ∙ nothing framePulses s g (at (weightless framePulses) 3 all-weightless g h);
-  fits = λ g h k. rw (said-sum s g k) (sum-small framePulses frame-sound s g h k);
+  fits = λ g h k. rw (said-sum s g k) (rw (frame-widths g k) at (sum-small framePulses frame-sound s g h k));
 }
 
 pub sums-of-row : (v : List ℕ) → Values v → sumsOf framePulses (row framePulses v) ≡ v
@@ -94,4 +95,6 @@ sums-of-row v p =
 
     same : (g : ℕ) → g < groups → Dec (g < firstData) → sumOf framePulses s g ≡ getD v g 0
     same g k (yes h) = nothing framePulses s g (at (weightless framePulses) 3 all-weightless g h) ∙ sym (p .none g h)
-    same g k (no h) = let l : firstData ≤ g = omega arith in read-written framePulses frame-sound v g l k (p .fits g l k)
+    same g k (no h) =
+        let l : firstData ≤ g = omega arith in
+        read-written framePulses frame-sound v g l k (rw (frame-widths g k) (p .fits g l k))

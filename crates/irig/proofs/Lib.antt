@@ -1,4 +1,5 @@
 pub mod Each
+pub mod AmountLaws
 pub mod OffsetLaws
 pub mod GroupLaws
 pub mod FieldLaws

@@ -94,10 +94,6 @@ frame-even r =
     )
     (even (onesFrom 1 beforeParity (row framePulses (valuesOf r 0))) (parityOf r) (parity-is r))
 
--- and so has the sum of its pulses, marks and all
-pub frame-even-sum : (r : Reading) → sumFrom 1 parityPlace (frameOf r) % 2 ≡ 0
-frame-even-sum r = sym (parity-of-sum 1 parityPlace (frameOf r)) ∙ frame-even r
-
 -- the ones among 1 to 75 are even where the pulse 75 is the parity of the others
 pub parity-right : (s : List ℕ) → getD s parityPlace 0 < 2 → onesFrom 1 parityPlace s % 2 ≡ 0 → onesFrom 1 beforeParity s % 2 ≡ getD s parityPlace 0
 parity-right s h e = omega (arith, ones-more 1 beforeParity s)

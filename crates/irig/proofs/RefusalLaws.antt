@@ -1,5 +1,5 @@
 -- The first refusals of the reader: a wrong length, and the lowest place whose byte is not allowed there.
-use mathlib.Core.Path.{_≡_, sym, _∙_}
+use mathlib.Core.Path.{_≡_}
 use mathlib.Core.Bool.{true, false}
 use mathlib.Core.List.{List}
 use Prim.Native.Nat.{ℕ, _<_, _≤_}

@@ -16,8 +16,8 @@ use Rattle.reading.specs.Offset.{opposite, localOf}
 use Rattle.reading.specs.Universal.{dateOf}
 use Rattle.reading.proofs.YearLaws.{year-back}
 use Rattle.reading.proofs.CheckLaws.{Checked}
-use Rattle.pulses.specs.Row.{groups, groupOf, pulsesIn}
-use Rattle.irig_table.specs.Table.{framePulses, leapPending, deletion, changePending, summer, minus, quality, secondOfDay}
+use Rattle.irig_table.specs.Table.{leapPending, deletion, changePending, summer, minus, quality, secondOfDay}
+use Rattle.irig_table.proofs.TableLaws.{widths}
 use Rattle.irig.specs.Offset.{isMinus, halvesOf}
 use Rattle.irig.specs.Meaning.{
   said,
@@ -35,7 +35,7 @@ use Rattle.irig.specs.Meaning.{
   readingOf,
 }
 use Rattle.irig.specs.Writing.{bit, groupsOf, valuesOf}
-use Rattle.irig.proofs.Each.{Each, each, each-at}
+use Rattle.irig.proofs.Each.{Each, each-at}
 use Rattle.irig.proofs.GroupLaws.{Values}
 use Rattle.irig.proofs.OffsetLaws.{amount-back, no-minus-zero, offset-back, halves-few}
 use Rattle.irig.proofs.FieldLaws.{Digits, Sound}
@@ -60,8 +60,8 @@ module _ (base : ℕ) (r : Reading) (p : ℕ) (c : Checked base r) where
       (w .0, omega (arith, w .1, year-least (leapYear (r .year)) .1))
 
   -- each fits in the pulses of its group
-  fits-each : p < 2 → Each (λ k. getD (valuesOf r p) (k + 3) 0 < 2 ^ pulsesIn framePulses (k + 3)) 29
-  unfolding valuesOf groupsOf pulsesIn groupOf framePulses
+  fits-each : p < 2 → Each (λ k. getD (valuesOf r p) (k + 3) 0 < 2 ^ getD widths (k + 3) 0) 29
+  unfolding valuesOf groupsOf widths
   fits-each small =
       let h = c .hour in
       let m = c .minute in
@@ -81,8 +81,8 @@ module _ (base : ℕ) (r : Reading) (p : ℕ) (c : Checked base r) where
     long = refl;
     none = each-at (λ g. getD (valuesOf r p) g 0 ≡ 0) 3 (((tt, refl), refl), refl);
     fits = λ g h k. let e : g - 3 + 3 ≡ g = omega arith in
-        subst (λ (n : ℕ). getD (valuesOf r p) n 0 < 2 ^ pulsesIn framePulses n) e
-        (each-at (λ k. getD (valuesOf r p) (k + 3) 0 < 2 ^ pulsesIn framePulses (k + 3)) 29 (fits-each small) (g - 3) (omega arith));
+        subst (λ (n : ℕ). getD (valuesOf r p) n 0 < 2 ^ getD widths n 0) e
+        (each-at (λ k. getD (valuesOf r p) (k + 3) 0 < 2 ^ getD widths (k + 3) 0) 29 (fits-each small) (g - 3) (omega arith));
   }
 
   -- ---- they say the reading

@@ -41,7 +41,7 @@ impl Ieee1344 {
         }
         let scan = irig_table::scanned(s);
         let good = scan.good;
-        if good < Ieee1344::LENGTH {
+        if good <= Ieee1344::LAST {
             return Answer::No(refusal_of(Fault::Byte(good)));
         }
         let v = scan.sums;

@@ -1,9 +1,8 @@
 -- What an entry of a table tells: its group is one of 32, and a pulse that is laid at it is allowed there.
-use mathlib.Core.Path.{_≡_, refl, sym, ap, ap₂, _∙_}
+use mathlib.Core.Path.{_≡_, refl, sym, ap, _∙_}
 use mathlib.Core.Bool.{Bool, true, false, cond}
 use Prim.Native.Nat.{ℕ, zero, suc, _+_, _-_, _*_, _/_, _%_, _^_, _<_, _≤_}
 use native.Mathlib.Nat.{mod-eq-of-lt, pow-succ'}
-use native.Mathlib.Numerals.{add-one}
 use native.Mathlib.Omega.{arith}
 use lib.Bits.{bitAnd, and-high}
 use lib.Dec.{ltb, eqb}
@@ -93,19 +92,6 @@ laid-same false g d b h k = k refl ∙ mod-eq-of-lt (ltb-true b 2 h)
 pub pulse-same : (e n b : ℕ) → pulseAllowed e b ≡ true → (firstData ≤ groupOf e → digitOf n (weightOf e) ≡ b % 2) → pulseOf e n ≡ b
 unfolding pulseAllowed pulseOf
 pulse-same e n b h k = laid-same (isFixed e) (groupOf e) (digitOf n (weightOf e)) b h (λ f. k (ltb-false (groupOf e) firstData f))
-
-any-three : (f : Bool) (g b : ℕ) → (f ≡ true → g < firstData) → cond f (eqb b g) (ltb b 2) ≡ true → b ≤ 2
-any-three true g b k h = omega (arith, k refl, eqb-true b g h)
-any-three false g b k h = omega (arith, ltb-true b 2 h)
-
--- an allowed byte is 0, 1 or 2
-pub allowed-small : (e b : ℕ) → pulseAllowed e b ≡ true → b ≤ 2
-unfolding pulseAllowed
-allowed-small e b h = any-three (isFixed e) (groupOf e) b (ltb-true (groupOf e) firstData) h
-
--- and at an entry of data 0 or 1
-pub allowed-data : (e b : ℕ) → firstData ≤ groupOf e → pulseAllowed e b ≡ true → b < 2
-allowed-data e b d h = ltb-true b 2 (sym (data-allowed e b d) ∙ h)
 
 -- the pulse at an entry of data is the digit that its weight, a power of two, picks
 pub pulse-data : (e : ℕ) (v : List ℕ) (k : ℕ) → firstData ≤ groupOf e → weightOf e ≡ 2 ^ k → pulseFor e v ≡ getD v (groupOf e) 0 / 2 ^ k % 2

@@ -99,18 +99,6 @@ good-before (e ∷ t) [] i h = absurd (not-suc-le-zero h)
 good-before (e ∷ t) (b ∷ s) zero h = counted (pulseAllowed e b) (goodPulses t s) 0 h .0
 good-before (e ∷ t) (b ∷ s) (suc i) h = good-before t s i (counted (pulseAllowed e b) (goodPulses t s) (suc i) h .1)
 
--- the pulse there, if both go on, is not allowed
-pub good-first-bad : (t s : List ℕ) → goodPulses t s < length t → goodPulses t s < length s → allowedAt t s (goodPulses t s) ≡ false
-good-first-bad t s h k = decide (allowedAt t s n) refl
-  where
-    n : ℕ
-    n = goodPulses t s
-
-    decide : (a : Bool) → allowedAt t s n ≡ a → a ≡ false
-    decide false e = refl
-    decide true e =
-        absurd (omega (arith, good-from t s n (omega arith) (omega arith) (good-before t s), good-more t s n h k e))
-
 -- all are good where each is allowed
 pub all-good : (t s : List ℕ) → length t ≤ length s → ((i : ℕ) → i < length t → allowedAt t s i ≡ true) → goodPulses t s ≡ length t
 all-good t s h a = sym (counted-ends t s (length t) (good-from t s (length t) (le-refl (length t)) h a) (omega arith))

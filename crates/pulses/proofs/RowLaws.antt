@@ -9,7 +9,7 @@ use native.Mathlib.Decide.{decLt, ℕ-discrete}
 use native.Mathlib.Omega.{arith}
 use borrow.Author.Tests.{le-leb, lt-leb}
 use lib.ListN.{length, getD, take, drop, set, length-append, length-drop, length-set}
-use lib.Seq.{drop-cons, take-suc, set-at, length-take-le, ext-getD, take-at, take-length, drop-at, getD-set-same, getD-set-other, set-append-left}
+use lib.Seq.{drop-cons, take-suc, set-at, length-take-le, ext-getD, take-length, getD-set-same, getD-set-other, set-append-left}
 use Rattle.pulses.specs.Row.{groupOf, weightOf, firstData, digitOf, pulseOf, pulseFor, goodPulses, row, fitsIn, laid}
 use Rattle.pulses.proofs.EntryLaws.{pulse-allowed, pulse-data, pulse-for-same, fixed-pulse, data-pulse}
 
@@ -29,15 +29,6 @@ pub row-good : (t v : List ℕ) → goodPulses t (row t v) ≡ length t
 unfolding goodPulses row pulseFor
 row-good [] v = refl
 row-good (e ∷ t) v = rw (pulse-allowed e (getD v (groupOf e) 0), row-good t v)
-
--- the row goes by the values of the groups of data alone
-pub row-same : (t v w : List ℕ)
-    → ((i : ℕ) → i < length t → firstData ≤ groupOf (getD t i 0) → getD v (groupOf (getD t i 0)) 0 ≡ getD w (groupOf (getD t i 0)) 0)
-    → row t v ≡ row t w
-row-same t v w h =
-    ext-getD 0 (row t v) (row t w) (length-row t v ∙ sym (length-row t w))
-    (λ i l. let k : i < length t = rw length-row at l in
-    pulse-at t v i k ∙ pulse-for-same (getD t i 0) v w (h i k) ∙ sym (pulse-at t w i k))
 
 -- ---- one value changed
 
@@ -136,14 +127,6 @@ module _ (t v out : List ℕ) where
     | yes h ↦ ap length (too-few h .1)
     | no h ↦ ap length (enough (omega arith) .1) ∙ simp (length-append, length-row, length-drop) (omega arith)
   ]
-
-  -- the row stands at the start
-  pub laid-front : length t ≤ length out → take (length t) (laid t v out) ≡ row t v
-  laid-front h = rw (enough h .1) (take-at (row t v) (drop (length t) out) (length t) (length-row t v))
-
-  -- and the other bytes are as they were
-  pub laid-rest : length t ≤ length out → drop (length t) (laid t v out) ≡ drop (length t) out
-  laid-rest h = rw (enough h .1) (drop-at (row t v) (drop (length t) out) (length t) (length-row t v))
 
 -- a value changed in the bytes: the one pulse of its group
 pub laid-set : (t v out : List ℕ) (g p x : ℕ) → Alone t g p → g < length v → x < 2 → length t ≤ length out

@@ -1,5 +1,5 @@
 -- One pass over the pulses: what is counted and what is gathered, place by place, and what it comes to where all are good.
-use mathlib.Core.Path.{_≡_, refl, sym, ap, _∙_}
+use mathlib.Core.Path.{_≡_, ap, _∙_}
 use mathlib.Core.Bool.{true, false}
 use mathlib.Core.List.{List}
 use Prim.Native.Nat.{ℕ, _+_, _*_, _%_, _<_, _≤_, min}
@@ -8,7 +8,7 @@ use borrow.Author.Tests.{eq-eqb, ne-eqb, lt-ltb, le-ltb}
 use lib.ListN.{length, getD, take, set, replicate, length-take}
 use lib.Seq.{getD-take, take-all}
 use Rattle.pulses.specs.declared.Scan.{Scan}
-use Rattle.pulses.specs.Row.{weights, groups, firstData, mostPlaces, groupOf, weightOf, pulseAllowed, goodPulses, sumOf, sumsOf, goodOf, scanOf}
+use Rattle.pulses.specs.Row.{weights, groups, firstData, mostPlaces, groupOf, weightOf, pulseAllowed, goodPulses, sumsOf, goodOf, scanOf}
 use Rattle.pulses.proofs.EntryLaws.{fixed-allowed, data-allowed}
 use Rattle.pulses.proofs.GoodLaws.{Counted, counted-none, counted-more, counted-stops, counted-ends}
 use Rattle.pulses.proofs.SumLaws.{Gathered, gathered-none, gathered-fixed, gathered-more, gathered-all}

@@ -1,5 +1,4 @@
 -- `irig::told` meets its contract. Assumes nothing.
-use borrow.Author.Needs.{needs}
 use mathlib.Core.Path.{_≡_}
 use Rattle.reading.specs.declared.Reading.{Reading}
 use Rattle.reading.specs.declared.Refusal.{Refusal}
@@ -19,19 +18,21 @@ refused : (v : Verdict) (r : Reading) (x : Fault) (n : Refusal) → v ≡ Bad x 
 refused v r x n e f = rw (e, f)
 
 enum-told : tie.Need-enum-told
-enum-told c = search needs
+enum-told c = c .match .keys1
 
 enum-known-verdict : tie.Need-enum-known-verdict
-enum-known-verdict c = search needs
+enum-known-verdict c = c .match .keys2
 
 refusal-of-requires : tie.Need-refusal-of-requires
-refusal-of-requires c κs = search needs
+refusal-of-requires c κs = tt
 
 returns : tie.Need-returns
-returns c = timed (c .before .before .args .verdict) _ (cc)
+returns c = timed (c .before .before .args .verdict) _ (c .enum-told .given .1)
 
 returns-2 : tie.Need-returns-2
-returns-2 c = refused (c .before .before .before .before .args .verdict) _ (c .before .before .verdict .given .0 .0) _ (cc) (cc)
+returns-2 c =
+    let v = c .before .before in
+    refused (v .before .before .args .verdict) _ (v .verdict .given .0 .0) _ (v .verdict .given .1) (c .refusal-of .ensures)
 
 pub told-spec : {M : Type 1} → statement M
 told-spec = tie.close (tie.spec enum-told enum-known-verdict refusal-of-requires returns returns-2)

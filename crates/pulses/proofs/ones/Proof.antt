@@ -31,13 +31,13 @@ whole c =
     (omega arith) (k .0) (k .1) (x .ensures) (y .ensures)
 
 lies-within-requires : tie.Need-lies-within-requires
-lies-within-requires c κs = search needs
+lies-within-requires c κs = tt
 
 returns : tie.Need-returns
 returns c = (sym (ones-of-none _ _ _ (failed (c .before .lies-within .ensures) (c .if1 .taken))), omega arith)
 
 smaller-requires : tie.Need-smaller-requires
-smaller-requires c κs = search needs
+smaller-requires c κs = tt
 
 packed-requires : tie.Need-packed-requires
 packed-requires c κs = let k = known (c .before) in omega arith

@@ -1,5 +1,4 @@
 -- `pulses::packed` meets its contract: after i turns the word holds i pulses. Assumes nothing.
-use borrow.Author.Needs.{needs}
 use native.Mathlib.Omega.{arith}
 use mathlib.Core.Path.{_≡_}
 use Prim.Native.Nat.{_≤_, _-_}
@@ -26,7 +25,7 @@ shared-slice-read-bit : tie.Need-shared-slice-read-bit Inv-loop μ-loop
 shared-slice-read-bit c = omega arith
 
 bit-requires : tie.Need-bit-requires Inv-loop μ-loop
-bit-requires c κs = search needs
+bit-requires c κs = tt
 
 add-word : tie.Need-add-word Inv-loop μ-loop
 add-word c =

@@ -1,5 +1,4 @@
 -- `pulses::weight_of` meets its contract. Assumes nothing.
-use borrow.Author.Needs.{needs}
 use native.Mathlib.Omega.{arith}
 use mathlib.Core.Path.{sym}
 use Rattle.pulses.proofs.EntryLaws.{fixed-weight, data-weight}
@@ -7,7 +6,7 @@ use Rattle.pulses.proofs.weight_of.Statement.{statement}
 use Rattle.pulses.proofs.weight_of.Tie as tie
 
 group-of-requires : tie.Need-group-of-requires
-group-of-requires c κs = search needs
+group-of-requires c κs = tt
 
 returns : tie.Need-returns
 returns c = (sym (fixed-weight _ (omega arith)), omega arith)

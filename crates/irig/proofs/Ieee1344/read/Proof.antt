@@ -1,5 +1,4 @@
 -- `irig::Ieee1344::read` meets its contract. Assumes nothing.
-use borrow.Author.Needs.{needs}
 use mathlib.Core.Path.{sym}
 use native.Mathlib.Omega.{arith}
 use Rattle.irig.proofs.GroupLaws.{sums-small}
@@ -8,16 +7,16 @@ use Rattle.irig.proofs.Ieee1344.read.Statement.{statement}
 use Rattle.irig.proofs.Ieee1344.read.Tie as tie
 
 refusal-of-requires : tie.Need-refusal-of-requires
-refusal-of-requires c κs = search needs
+refusal-of-requires c κs = tt
 
 returns : tie.Need-returns
 returns c = rw (c .refusal-of .ensures) (sym (wrong-length _ _ (c .before .if1 .taken)))
 
 scanned-requires : tie.Need-scanned-requires
-scanned-requires c κs = search needs
+scanned-requires c κs = tt
 
 refusal-of-requires-2 : tie.Need-refusal-of-requires-2
-refusal-of-requires-2 c κs = search needs
+refusal-of-requires-2 c κs = tt
 
 returns-2 : tie.Need-returns-2
 returns-2 c =
@@ -31,7 +30,7 @@ reading-of-requires c κs =
     rw (found-sums _ _ (g .scanned .ensures) (g .before .if1 .left) (omega arith)) (sums-small _)
 
 is-odd-requires : tie.Need-is-odd-requires
-is-odd-requires c κs = search needs
+is-odd-requires c κs = c .before .before .before .before .if1 .left
 
 values-fault-requires : tie.Need-values-fault-requires
 values-fault-requires c κs =
@@ -39,7 +38,7 @@ values-fault-requires c κs =
     (rw (found-sums _ _ (g .scanned .ensures) (g .before .if1 .left) (omega arith)) (sums-small _), c .before .reading-of .ensures)
 
 told-requires : tie.Need-told-requires
-told-requires c κs = search needs
+told-requires c κs = tt
 
 returns-3 : tie.Need-returns-3
 returns-3 c =

@@ -28,29 +28,30 @@ module _ (b : ℕ) (r : Reading) (out : List ℕ) (v : Verdict) (is : v ≡ writ
   wrote after e q = rw (← is, e, length-frame r) (refl, q)
 
 write-fault-requires : tie.Need-write-fault-requires
-write-fault-requires c κs = search needs
+write-fault-requires c κs = tt
 
 enum-known-verdict : tie.Need-enum-known-verdict
-enum-known-verdict c = search needs
+enum-known-verdict c = c .match .keys1
 
 refusal-of-requires : tie.Need-refusal-of-requires
-refusal-of-requires c κs = search needs
+refusal-of-requires c κs = tt
 
 returns : tie.Need-returns
 returns c =
-    let w = c .before .before .before .before in
+    let v = c .before .before in
+    let w = v .before .before in
     let a = w .before .before .args in
-    refused _ (a .r) (a .out .now) (w .write-fault .result) (w .write-fault .ensures) (c .before .before .verdict .given .0 .0) _ (cc) (c .refusal-of .ensures)
+    refused _ (a .r) (a .out .now) (w .write-fault .result) (w .write-fault .ensures) (v .verdict .given .0 .0) _ (v .verdict .given .1) (c .refusal-of .ensures)
 
 enum-told : tie.Need-enum-told
-enum-told c = search needs
+enum-told c = c .match .keys2
 
 lay-frame-requires : tie.Need-lay-frame-requires
 lay-frame-requires c κs =
-    let w = c .before .before .before in
+    let v = c .before in
+    let w = v .before .before in
     let a = w .before .before .args in
-    let g : w .write-fault .result ≡ Good = cc in
-    room-enough _ (a .r) (length (a .out .now)) (sym (w .write-fault .ensures) ∙ g) .0
+    room-enough _ (a .r) (length (a .out .now)) (sym (w .write-fault .ensures) ∙ v .enum-told .given .1) .0
 
 same-length : tie.Need-same-length
 same-length c = search needs
@@ -58,10 +59,10 @@ same-length c = search needs
 returns-2 : tie.Need-returns-2
 returns-2 c =
     let f = c .before .before in
-    let w = f .before .before .before .before in
+    let v = f .before .before in
+    let w = v .before .before in
     let a = w .before .before .args in
-    let g : w .write-fault .result ≡ Good = cc in
-    wrote _ (a .r) (a .out .now) (w .write-fault .result) (w .write-fault .ensures) (f .lay-frame .last .0) g (f .lay-frame .ensures)
+    wrote _ (a .r) (a .out .now) (w .write-fault .result) (w .write-fault .ensures) (f .lay-frame .last .0) (v .enum-told .given .1) (f .lay-frame .ensures)
 
 pub write-spec : {M : Type 1} → statement M
 write-spec =

@@ -1,14 +1,13 @@
 -- `irig::faults::day_bad` meets its contract. Assumes nothing.
-use borrow.Author.Needs.{needs}
 use Rattle.calendar.specs.Calendar.{inYear}
 use Rattle.irig.proofs.faults.day_bad.Statement.{statement}
 use Rattle.irig.proofs.faults.day_bad.Tie as tie
 
 is-leap-requires : tie.Need-is-leap-requires
-is-leap-requires c κs = search needs
+is-leap-requires c κs = tt
 
 year-length-requires : tie.Need-year-length-requires
-year-length-requires c κs = search needs
+year-length-requires c κs = tt
 
 returns : tie.Need-returns
 unfolding inYear

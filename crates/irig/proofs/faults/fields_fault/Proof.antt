@@ -1,7 +1,6 @@
 -- `irig::faults::fields_fault` meets its contract. Assumes nothing.
 use borrow.Author.Needs.{needs}
 use mathlib.Core.Path.{_≡_}
-use mathlib.Core.Path.{_≡_}
 use mathlib.Core.Bool.{not, _&&_, _||_}
 use mathlib.Core.List.{List}
 use Prim.Native.Nat.{ℕ}
@@ -31,34 +30,34 @@ day-in-requires : tie.Need-day-in-requires
 day-in-requires c κs = search needs
 
 day-bad-requires : tie.Need-day-bad-requires
-day-bad-requires c κs = search needs
+day-bad-requires c κs = tt
 
 second-of-day-wrong-requires : tie.Need-second-of-day-wrong-requires
-second-of-day-wrong-requires c κs = search needs
+second-of-day-wrong-requires c κs = tt
 
 offset-bad-requires : tie.Need-offset-bad-requires
 offset-bad-requires c κs = search needs
 
 leap-second-bad-requires : tie.Need-leap-second-bad-requires
-leap-second-bad-requires c κs = search needs
+leap-second-bad-requires c κs = tt
 
 is-set-requires : tie.Need-is-set-requires
 is-set-requires c κs = search needs
 
 rest-fault-requires : tie.Need-rest-fault-requires
-rest-fault-requires c κs = search needs
+rest-fault-requires c κs = tt
 
 second-bad-requires : tie.Need-second-bad-requires
-second-bad-requires c κs = search needs
+second-bad-requires c κs = tt
 
 minute-bad-requires : tie.Need-minute-bad-requires
-minute-bad-requires c κs = search needs
+minute-bad-requires c κs = tt
 
 hour-bad-requires : tie.Need-hour-bad-requires
-hour-bad-requires c κs = search needs
+hour-bad-requires c κs = tt
 
 time-fault-requires : tie.Need-time-fault-requires
-time-fault-requires c κs = search needs
+time-fault-requires c κs = tt
 
 returns : tie.Need-returns
 returns c =

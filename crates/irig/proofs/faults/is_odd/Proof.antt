@@ -1,5 +1,4 @@
 -- `irig::faults::is_odd` meets its contract. Assumes nothing.
-use borrow.Author.Needs.{needs}
 use native.Mathlib.Omega.{arith}
 use Rattle.pulses.proofs.OnesLaws.{ones-of-part}
 use Rattle.irig.specs.Faults.{isOdd}
@@ -7,7 +6,7 @@ use Rattle.irig.proofs.faults.is_odd.Statement.{statement}
 use Rattle.irig.proofs.faults.is_odd.Tie as tie
 
 ones-requires : tie.Need-ones-requires
-ones-requires c κs = search needs
+ones-requires c κs = tt
 
 returns : tie.Need-returns
 unfolding isOdd

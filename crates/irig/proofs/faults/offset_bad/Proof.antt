@@ -10,7 +10,7 @@ halves-in-requires : tie.Need-halves-in-requires
 halves-in-requires c κs = search needs
 
 is-good-requires : tie.Need-is-good-requires
-is-good-requires c κs = search needs
+is-good-requires c κs = tt
 
 returns : tie.Need-returns
 returns c = rw (c .before .before .is-set .ensures, c .before .halves-in .ensures, c .is-good .ensures)

@@ -7,7 +7,7 @@ array-read-result : tie.Need-array-read-result
 array-read-result c = search needs
 
 second-of-day-requires : tie.Need-second-of-day-requires
-second-of-day-requires c κs = search needs
+second-of-day-requires c κs = tt
 
 returns : tie.Need-returns
 returns c = rw (c .second-of-day .ensures)

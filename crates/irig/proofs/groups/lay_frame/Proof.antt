@@ -5,16 +5,16 @@ use Rattle.irig.proofs.groups.lay_frame.Statement.{statement}
 use Rattle.irig.proofs.groups.lay_frame.Tie as tie
 
 values-of-requires : tie.Need-values-of-requires
-values-of-requires c κs = search needs
+values-of-requires c κs = tt
 
 lay-requires : tie.Need-lay-requires
-lay-requires c κs = search needs
+lay-requires c κs = tt
 
 sub-ones : tie.Need-sub-ones
 sub-ones c = search needs
 
 ones-requires : tie.Need-ones-requires
-ones-requires c κs = search needs
+ones-requires c κs = tt
 
 cast-out : tie.Need-cast-out
 cast-out c = search needs

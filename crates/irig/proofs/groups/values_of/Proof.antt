@@ -5,7 +5,7 @@ use Rattle.irig.proofs.groups.values_of.Statement.{statement}
 use Rattle.irig.proofs.groups.values_of.Tie as tie
 
 added-requires : tie.Need-added-requires
-added-requires c κs = search needs
+added-requires c κs = tt
 
 day-of-year-requires : tie.Need-day-of-year-requires
 day-of-year-requires c κs = search needs
@@ -14,16 +14,16 @@ cast-day : tie.Need-cast-day
 cast-day c = search needs
 
 is-minus-requires : tie.Need-is-minus-requires
-is-minus-requires c κs = search needs
+is-minus-requires c κs = tt
 
 bit-requires : tie.Need-bit-requires
-bit-requires c κs = search needs
+bit-requires c κs = tt
 
 halves-of-requires : tie.Need-halves-of-requires
-halves-of-requires c κs = search needs
+halves-of-requires c κs = tt
 
 groups-of-requires : tie.Need-groups-of-requires
-groups-of-requires c κs = search needs
+groups-of-requires c κs = tt
 
 returns : tie.Need-returns
 unfolding valuesOf

@@ -1,5 +1,4 @@
 -- `irig::groups::write_fault` meets its contract. Assumes nothing.
-use borrow.Author.Needs.{needs}
 use borrow.Author.Tests.{lt-ltb, le-ltb}
 use Rattle.irig.specs.Writing.{writeFault}
 use Rattle.irig.proofs.groups.write_fault.Statement.{statement}
@@ -10,7 +9,7 @@ unfolding writeFault
 returns c = rw (lt-ltb _ 100 (c .if1 .taken))
 
 checked-requires : tie.Need-checked-requires
-checked-requires c κs = search needs
+checked-requires c κs = tt
 
 returns-2 : tie.Need-returns-2
 unfolding writeFault

@@ -1,7 +1,5 @@
 -- `pulses::outline::in_outline` meets its contract. Assumes nothing.
-use borrow.Author.Needs.{needs}
-use mathlib.Core.Path.{_≡_, ap, sym, _∙_}
-use mathlib.Core.Bool.{true, false}
+use mathlib.Core.Path.{_≡_, sym, _∙_}
 use Prim.Native.Nat.{ℕ}
 use lib.Dec.{eqb, ltb}
 use borrow.Author.Tests.{eq-eqb, ne-eqb}
@@ -19,10 +17,10 @@ unfolding inOutline
 plain e b g k d = rw (← k, ne-eqb g marks d)
 
 group-of-requires : tie.Need-group-of-requires
-group-of-requires c κs = search needs
+group-of-requires c κs = tt
 
 returns : tie.Need-returns
-returns c = marked _ _ (cc)
+returns c = marked _ _ (sym (c .before .group-of .ensures .0) ∙ c .if1 .taken)
 
 returns-2 : tie.Need-returns-2
 returns-2 c = plain _ _ (c .before .group-of .result) (c .before .group-of .ensures .0) (c .if1 .left)

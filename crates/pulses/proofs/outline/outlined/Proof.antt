@@ -1,10 +1,10 @@
 -- `pulses::outline::outlined` meets its contract. The loop's invariant: what is left has the outline exactly where the whole has it. Assumes nothing.
 use native.Mathlib.Omega.{arith}
 use borrow.Author.Needs.{needs}
-use mathlib.Core.Path.{_≡_, refl, sym, ap, _∙_}
+use mathlib.Core.Path.{_≡_, refl, sym, _∙_}
 use mathlib.Core.Bool.{true, false}
 use mathlib.Core.List.{List}
-use Prim.Native.Nat.{ℕ, suc, _+_, _-_, _≤_, _<_}
+use Prim.Native.Nat.{ℕ, _+_, _-_, _≤_, _<_}
 use native.Mathlib.Numerals.{add-one}
 use lib.ListN.{length, drop}
 use Rattle.laws.proofs.Bools.{failed, passed}
@@ -43,7 +43,7 @@ shared-slice-read-in-outline-2 : tie.Need-shared-slice-read-in-outline-2 Inv-loo
 shared-slice-read-in-outline-2 c = omega arith
 
 in-outline-requires : tie.Need-in-outline-requires Inv-loop μ-loop
-in-outline-requires c κs = search needs
+in-outline-requires c κs = tt
 
 returns-2 : tie.Need-returns-2 Inv-loop μ-loop
 returns-2 c = let l = c .before .before .before .before .before in stop _ _ _ (omega arith) (l .loop .inv .1) (l .loop .inv .2) (failed (c .before .in-outline .ensures) (c .if2 .taken))
