@@ -53,23 +53,28 @@ fn plain_values(r: Reading, head: u16) -> [u32; 32]
         month: r.month,
         day: r.day,
     };
-    let mut v = [0u32; 32];
-    v[groups::HEAD] = head as u32;
-    v[groups::CHANGE] = bit(r.change);
-    v[groups::ZONE] = zone_of(r.summer);
-    v[groups::LEAP] = bit(r.leap);
-    v[groups::MINUTES] = (r.minute % 10) as u32;
-    v[groups::TENS_OF_MINUTES] = (r.minute / 10) as u32;
-    v[groups::HOURS] = (r.hour % 10) as u32;
-    v[groups::TENS_OF_HOURS] = (r.hour / 10) as u32;
-    v[groups::DAYS] = (r.day % 10) as u32;
-    v[groups::TENS_OF_DAYS] = (r.day / 10) as u32;
-    v[groups::WEEKDAY] = weekday(date) as u32;
-    v[groups::MONTHS] = (r.month % 10) as u32;
-    v[groups::TENS_OF_MONTHS] = (r.month / 10) as u32;
-    v[groups::YEARS] = (r.year % 10) as u32;
-    v[groups::TENS_OF_YEARS] = (r.year / 10 % 10) as u32;
-    v
+    [
+        0, 0, 0,
+        head as u32,
+        bit(r.change),
+        zone_of(r.summer),
+        bit(r.leap),
+        (r.minute % 10) as u32,
+        (r.minute / 10) as u32,
+        0,
+        (r.hour % 10) as u32,
+        (r.hour / 10) as u32,
+        0,
+        (r.day % 10) as u32,
+        (r.day / 10) as u32,
+        weekday(date) as u32,
+        (r.month % 10) as u32,
+        (r.month / 10) as u32,
+        (r.year % 10) as u32,
+        (r.year / 10 % 10) as u32,
+        0,
+        0, 0, 0, 0, 0, 0, 0, 0, 0, 0, 0,
+    ]
 }
 
 // The mark at `to` that makes the ones from `from` on even in number.
