@@ -1,7 +1,7 @@
 -- `dcf77::reader::reading_of` meets its contract. Assumes nothing.
 use borrow.Author.Needs.{needs}
 use Rattle.dcf77.specs.Reader.{readingOf}
-use native.Mathlib.Omega.{arith}
+use lib.Dec.{lit<}
 use Rattle.dcf77_table.proofs.ValueLaws.{digit-small}
 use Rattle.dcf77.proofs.reader.reading_of.Statement.{statement}
 use Rattle.dcf77.proofs.reader.reading_of.Tie as tie
@@ -19,7 +19,7 @@ array-read-two-digits-2 : tie.Need-array-read-two-digits-2
 array-read-two-digits-2 c = search needs
 
 two-digits-requires : tie.Need-two-digits-requires
-two-digits-requires c κs = (digit-small (c .before .pre) 19 (omega arith) (omega arith), digit-small (c .before .pre) 18 (omega arith) (omega arith))
+two-digits-requires c κs = (digit-small (c .before .pre) 19 (lit< tt) (lit< tt), digit-small (c .before .pre) 18 (lit< tt) (lit< tt))
 
 year-of-requires : tie.Need-year-of-requires
 year-of-requires c κs = search needs
@@ -31,7 +31,7 @@ array-read-two-digits-4 : tie.Need-array-read-two-digits-4
 array-read-two-digits-4 c = search needs
 
 two-digits-requires-2 : tie.Need-two-digits-requires-2
-two-digits-requires-2 c κs = (digit-small (c .before .before .before .pre) 17 (omega arith) (omega arith), digit-small (c .before .before .before .pre) 16 (omega arith) (omega arith))
+two-digits-requires-2 c κs = (digit-small (c .before .before .before .pre) 17 (lit< tt) (lit< tt), digit-small (c .before .before .before .pre) 16 (lit< tt) (lit< tt))
 
 array-read-two-digits-5 : tie.Need-array-read-two-digits-5
 array-read-two-digits-5 c = search needs
@@ -40,7 +40,7 @@ array-read-two-digits-6 : tie.Need-array-read-two-digits-6
 array-read-two-digits-6 c = search needs
 
 two-digits-requires-3 : tie.Need-two-digits-requires-3
-two-digits-requires-3 c κs = (digit-small (c .before .before .before .before .pre) 14 (omega arith) (omega arith), digit-small (c .before .before .before .before .pre) 13 (omega arith) (omega arith))
+two-digits-requires-3 c κs = (digit-small (c .before .before .before .before .pre) 14 (lit< tt) (lit< tt), digit-small (c .before .before .before .before .pre) 13 (lit< tt) (lit< tt))
 
 array-read-two-digits-7 : tie.Need-array-read-two-digits-7
 array-read-two-digits-7 c = search needs
@@ -49,7 +49,7 @@ array-read-two-digits-8 : tie.Need-array-read-two-digits-8
 array-read-two-digits-8 c = search needs
 
 two-digits-requires-4 : tie.Need-two-digits-requires-4
-two-digits-requires-4 c κs = (digit-small (c .before .before .before .before .before .pre) 11 (omega arith) (omega arith), digit-small (c .before .before .before .before .before .pre) 10 (omega arith) (omega arith))
+two-digits-requires-4 c κs = (digit-small (c .before .before .before .before .before .pre) 11 (lit< tt) (lit< tt), digit-small (c .before .before .before .before .before .pre) 10 (lit< tt) (lit< tt))
 
 array-read-two-digits-9 : tie.Need-array-read-two-digits-9
 array-read-two-digits-9 c = search needs
@@ -58,7 +58,7 @@ array-read-two-digits-10 : tie.Need-array-read-two-digits-10
 array-read-two-digits-10 c = search needs
 
 two-digits-requires-5 : tie.Need-two-digits-requires-5
-two-digits-requires-5 c κs = (digit-small (c .before .before .before .before .before .before .pre) 8 (omega arith) (omega arith), digit-small (c .before .before .before .before .before .before .pre) 7 (omega arith) (omega arith))
+two-digits-requires-5 c κs = (digit-small (c .before .before .before .before .before .before .pre) 8 (lit< tt) (lit< tt), digit-small (c .before .before .before .before .before .before .pre) 7 (lit< tt) (lit< tt))
 
 offset-in-requires : tie.Need-offset-in-requires
 offset-in-requires c κs = search needs
