@@ -1,5 +1,4 @@
 -- `dcf77::reader::reading_of` meets its contract. Assumes nothing.
-use borrow.Author.Needs.{needs}
 use Rattle.dcf77.specs.Reader.{readingOf}
 use lib.Dec.{lit<}
 use Rattle.dcf77_table.proofs.ValueLaws.{digit-small}
@@ -7,67 +6,67 @@ use Rattle.dcf77.proofs.reader.reading_of.Statement.{statement}
 use Rattle.dcf77.proofs.reader.reading_of.Tie as tie
 
 array-read-summer : tie.Need-array-read-summer
-array-read-summer c = search needs
+array-read-summer c = lit< tt
 
 zone-of-requires : tie.Need-zone-of-requires
-zone-of-requires c κs = search needs
+zone-of-requires c κs = tt
 
 array-read-two-digits : tie.Need-array-read-two-digits
-array-read-two-digits c = search needs
+array-read-two-digits c = lit< tt
 
 array-read-two-digits-2 : tie.Need-array-read-two-digits-2
-array-read-two-digits-2 c = search needs
+array-read-two-digits-2 c = lit< tt
 
 two-digits-requires : tie.Need-two-digits-requires
 two-digits-requires c κs = (digit-small (c .before .pre) 19 (lit< tt) (lit< tt), digit-small (c .before .pre) 18 (lit< tt) (lit< tt))
 
 year-of-requires : tie.Need-year-of-requires
-year-of-requires c κs = search needs
+year-of-requires c κs = tt
 
 array-read-two-digits-3 : tie.Need-array-read-two-digits-3
-array-read-two-digits-3 c = search needs
+array-read-two-digits-3 c = lit< tt
 
 array-read-two-digits-4 : tie.Need-array-read-two-digits-4
-array-read-two-digits-4 c = search needs
+array-read-two-digits-4 c = lit< tt
 
 two-digits-requires-2 : tie.Need-two-digits-requires-2
 two-digits-requires-2 c κs = (digit-small (c .before .before .before .pre) 17 (lit< tt) (lit< tt), digit-small (c .before .before .before .pre) 16 (lit< tt) (lit< tt))
 
 array-read-two-digits-5 : tie.Need-array-read-two-digits-5
-array-read-two-digits-5 c = search needs
+array-read-two-digits-5 c = lit< tt
 
 array-read-two-digits-6 : tie.Need-array-read-two-digits-6
-array-read-two-digits-6 c = search needs
+array-read-two-digits-6 c = lit< tt
 
 two-digits-requires-3 : tie.Need-two-digits-requires-3
 two-digits-requires-3 c κs = (digit-small (c .before .before .before .before .pre) 14 (lit< tt) (lit< tt), digit-small (c .before .before .before .before .pre) 13 (lit< tt) (lit< tt))
 
 array-read-two-digits-7 : tie.Need-array-read-two-digits-7
-array-read-two-digits-7 c = search needs
+array-read-two-digits-7 c = lit< tt
 
 array-read-two-digits-8 : tie.Need-array-read-two-digits-8
-array-read-two-digits-8 c = search needs
+array-read-two-digits-8 c = lit< tt
 
 two-digits-requires-4 : tie.Need-two-digits-requires-4
 two-digits-requires-4 c κs = (digit-small (c .before .before .before .before .before .pre) 11 (lit< tt) (lit< tt), digit-small (c .before .before .before .before .before .pre) 10 (lit< tt) (lit< tt))
 
 array-read-two-digits-9 : tie.Need-array-read-two-digits-9
-array-read-two-digits-9 c = search needs
+array-read-two-digits-9 c = lit< tt
 
 array-read-two-digits-10 : tie.Need-array-read-two-digits-10
-array-read-two-digits-10 c = search needs
+array-read-two-digits-10 c = lit< tt
 
 two-digits-requires-5 : tie.Need-two-digits-requires-5
 two-digits-requires-5 c κs = (digit-small (c .before .before .before .before .before .before .pre) 8 (lit< tt) (lit< tt), digit-small (c .before .before .before .before .before .before .pre) 7 (lit< tt) (lit< tt))
 
 offset-in-requires : tie.Need-offset-in-requires
-offset-in-requires c κs = search needs
+offset-in-requires c κs = tt
 
 array-read-t43 : tie.Need-array-read-t43
-array-read-t43 c = search needs
+array-read-t43 c = lit< tt
 
 array-read-t47 : tie.Need-array-read-t47
-array-read-t47 c = search needs
+array-read-t47 c = lit< tt
 
 returns : tie.Need-returns
 unfolding readingOf
