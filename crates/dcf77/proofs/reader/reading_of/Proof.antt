@@ -1,9 +1,39 @@
 -- `dcf77::reader::reading_of` meets its contract. Assumes nothing.
-use Rattle.dcf77.specs.Reader.{readingOf}
-use lib.Dec.{lit<}
+use mathlib.Core.Bool.{true}
+use mathlib.Core.List.{List}
+use mathlib.Core.Path.{_≡_}
+use Prim.Native.Nat.{ℕ}
+use lib.Dec.{lit<, eqb}
+use lib.ListN.{getD}
+use Rattle.reading.specs.declared.LocalMinusUtc.{LocalMinusUtc}
+use Rattle.reading.specs.Years.{base, yearOf}
+use Rattle.dcf77_table.specs.Table.{change, zone, leap, minutes, tensOfMinutes, hours, tensOfHours, days, tensOfDays, months, tensOfMonths, years, tensOfYears}
 use Rattle.dcf77_table.proofs.ValueLaws.{digit-small}
+use Rattle.dcf77.specs.Zones.{offsetIn, zoneOf}
+use Rattle.dcf77.specs.Reader.{twoDigits, readingOf}
 use Rattle.dcf77.proofs.reader.reading_of.Statement.{statement}
 use Rattle.dcf77.proofs.reader.reading_of.Tie as tie
+
+-- the fields as the code comes to them
+named : (v : List ℕ) (z digits y m d h n : ℕ) (o : LocalMinusUtc) → z ≡ zoneOf true → digits ≡ twoDigits v tensOfYears years → y ≡ yearOf base digits
+    → m ≡ twoDigits v tensOfMonths months → d ≡ twoDigits v tensOfDays days → h ≡ twoDigits v tensOfHours hours → n ≡ twoDigits v tensOfMinutes minutes
+    → o ≡ record { 0 = offsetIn (eqb (getD v zone 0) z) }
+    → record {
+      year = y;
+      month = m;
+      day = d;
+      hour = h;
+      minute = n;
+      second = 0;
+      offset = o;
+      summer = eqb (getD v zone 0) z;
+      leap = eqb (getD v leap 0) 1;
+      change = eqb (getD v change 0) 1;
+      quality = 0;
+    }
+    ≡ readingOf base v
+unfolding readingOf
+named v z digits y m d h n o ez ed ey em ed' eh en eo = rw (eo, ey, ed, em, ed', eh, en, ez)
 
 array-read-summer : tie.Need-array-read-summer
 array-read-summer c = lit< tt
@@ -69,18 +99,10 @@ array-read-t47 : tie.Need-array-read-t47
 array-read-t47 c = lit< tt
 
 returns : tie.Need-returns
-unfolding readingOf
 returns c =
-    rw (
-      c .before .before .before .before .before .year-of .ensures,
-      c .before .before .before .before .before .before .two-digits .ensures,
-      c .before .before .before .before .two-digits2 .ensures,
-      c .before .before .before .two-digits3 .ensures,
-      c .before .before .two-digits4 .ensures,
-      c .before .two-digits5 .ensures,
-      c .offset-in .ensures,
-      c .before .before .before .before .before .before .before .zone-of .ensures,
-    )
+    let d = c .before .before .before .before in
+    named _ _ _ _ _ _ _ _ _ (d .before .before .before .zone-of .ensures) (d .before .before .two-digits .ensures) (d .before .year-of .ensures) (d .two-digits2 .ensures)
+    (c .before .before .before .two-digits3 .ensures) (c .before .before .two-digits4 .ensures) (c .before .two-digits5 .ensures) (c .offset-in .ensures)
 
 pub reading-of-spec : {M : Type 1} → statement M
 reading-of-spec =

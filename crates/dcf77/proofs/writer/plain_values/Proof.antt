@@ -1,12 +1,30 @@
 -- `dcf77::writer::plain_values` meets its contract. Assumes nothing.
-use borrow.Author.Needs.{needs}
 use native.Mathlib.Omega.{arith}
-use Prim.Native.Nat.{ℕ, _%_}
+use mathlib.Core.List.{[], _∷_}
+use mathlib.Core.Path.{_≡_}
+use Prim.Native.Nat.{ℕ, _/_, _%_}
 use mir.Syntax.{w32}
 use mir.Val.{Fits}
-use Rattle.dcf77.specs.Writer.{plainOf}
+use Rattle.calendar.specs.Calendar.{weekdayOf}
+use Rattle.reading.specs.declared.Reading.{Reading}
+use Rattle.reading.specs.Universal.{dateOf}
+use Rattle.dcf77.specs.Zones.{zoneOf}
+use Rattle.dcf77.specs.Writer.{bit, plainOf}
 use Rattle.dcf77.proofs.writer.plain_values.Statement.{statement}
 use Rattle.dcf77.proofs.writer.plain_values.Tie as tie
+
+-- the list as the code comes to it
+listed : (r : Reading) (h c z l w : ℕ) → c ≡ bit (r .change) → z ≡ zoneOf (r .summer) → l ≡ bit (r .leap) → w ≡ weekdayOf (dateOf r)
+    → (0 ∷ 0 ∷ 0 ∷ h ∷ c ∷ z ∷ l
+    ∷ r .minute % 10 ∷ r .minute / 10 ∷ 0
+    ∷ r .hour % 10 ∷ r .hour / 10 ∷ 0
+    ∷ r .day % 10 ∷ r .day / 10 ∷ w
+    ∷ r .month % 10 ∷ r .month / 10
+    ∷ r .year % 10 ∷ r .year / 10 % 10 ∷ 0
+    ∷ 0 ∷ 0 ∷ 0 ∷ 0 ∷ 0 ∷ 0 ∷ 0 ∷ 0 ∷ 0 ∷ 0 ∷ 0 ∷ [])
+    ≡ plainOf r h
+unfolding plainOf
+listed r h c z l w ec ez el ew = rw (ec, ez, el, ew)
 
 digit-fits : (n : ℕ) → Fits w32 (n % 10)
 digit-fits n = record { fits = omega arith }
@@ -20,47 +38,44 @@ zone-of-requires c κs = tt
 bit-requires-2 : tie.Need-bit-requires-2
 bit-requires-2 c κs = tt
 
-cast-t9 : tie.Need-cast-t9
-cast-t9 c = digit-fits _
+cast-t8 : tie.Need-cast-t8
+cast-t8 c = digit-fits _
 
-cast-t11 : tie.Need-cast-t11
-cast-t11 c = omega arith
+cast-t10 : tie.Need-cast-t10
+cast-t10 c = omega arith
 
-cast-t13 : tie.Need-cast-t13
-cast-t13 c = digit-fits _
+cast-t12 : tie.Need-cast-t12
+cast-t12 c = digit-fits _
 
-cast-t15 : tie.Need-cast-t15
-cast-t15 c = omega arith
+cast-t14 : tie.Need-cast-t14
+cast-t14 c = omega arith
 
-cast-t17 : tie.Need-cast-t17
-cast-t17 c = digit-fits _
+cast-t16 : tie.Need-cast-t16
+cast-t16 c = digit-fits _
 
-cast-t19 : tie.Need-cast-t19
-cast-t19 c = omega arith
+cast-t18 : tie.Need-cast-t18
+cast-t18 c = omega arith
 
-weekday-requires : tie.Need-weekday-requires
-weekday-requires c κs = tt
+week-of-requires : tie.Need-week-of-requires
+week-of-requires c κs = tt
 
 cast-t21 : tie.Need-cast-t21
-cast-t21 c = search needs
+cast-t21 c = digit-fits _
 
 cast-t23 : tie.Need-cast-t23
-cast-t23 c = digit-fits _
+cast-t23 c = omega arith
 
 cast-t25 : tie.Need-cast-t25
-cast-t25 c = omega arith
+cast-t25 c = digit-fits _
 
-cast-t27 : tie.Need-cast-t27
-cast-t27 c = digit-fits _
-
-cast-t30 : tie.Need-cast-t30
-cast-t30 c = digit-fits _
+cast-t28 : tie.Need-cast-t28
+cast-t28 c = digit-fits _
 
 returns : tie.Need-returns
-unfolding plainOf
 returns c =
-    let marks = c .before .before .before .before .before .before .before .before .before .before .before in
-    rw (marks .before .before .bit .ensures, marks .before .zone-of .ensures, marks .bit2 .ensures, c .before .before .before .before .weekday .ensures)
+    let flags = c .before .before .before .before .before .before .before .before .before .before .before in
+    let a = flags .before .before .before .args in
+    listed (a .r) (a .head) _ _ _ _ (flags .before .before .bit .ensures) (flags .before .zone-of .ensures) (flags .bit2 .ensures) (c .before .before .before .before .week-of .ensures)
 
 pub plain-values-spec : {M : Type 1} → statement M
 plain-values-spec =
@@ -69,16 +84,15 @@ plain-values-spec =
     bit-requires
     zone-of-requires
     bit-requires-2
-    cast-t9
-    cast-t11
-    cast-t13
-    cast-t15
-    cast-t17
-    cast-t19
-    weekday-requires
+    cast-t8
+    cast-t10
+    cast-t12
+    cast-t14
+    cast-t16
+    cast-t18
+    week-of-requires
     cast-t21
     cast-t23
     cast-t25
-    cast-t27
-    cast-t30
-    returns)-- 1
+    cast-t28
+    returns)  -- 1
