@@ -35,6 +35,9 @@ module _ (s : List ℕ) (x : Scan) (e : x ≡ scanOf (minuteMarks (eqb (length s
   unfolding tableFor isLong
   found-good = scan-good (tableFor s) s (few (isLong (length s))) x e
 
+  pub found-all : length s ≤ x .good → length s ≤ goodPulses (tableFor s) s
+  found-all h = rw found-good at h
+
   pub found-sums : length s ≤ x .good → x .sums ≡ says s
   unfolding tableFor isLong says
   found-sums h = scan-sums (tableFor s) s (few (isLong (length s))) x e h

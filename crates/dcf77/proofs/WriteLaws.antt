@@ -14,7 +14,8 @@ use Rattle.reading.specs.declared.Reading.{Reading}
 use Rattle.reading.specs.declared.Verdict.{Verdict}
 use Rattle.reading.specs.declared.Verdict.the-variants.{Good, Bad}
 use Rattle.reading.specs.Checks.{timeBad, dateBad, qualityBad, checkedOf}
-use Rattle.reading.specs.Writing.{andThen, filled}
+use Rattle.reading.specs.declared.Written.{Written}
+use Rattle.reading.specs.Writing.{andThen, writtenOf, filled}
 use Rattle.reading.proofs.CheckLaws.{first-good, clash}
 use Rattle.pulses.specs.Row.{row, laid}
 use Rattle.pulses.proofs.RowLaws.{length-row, enough}
@@ -124,7 +125,7 @@ module _ (base : ℕ) (r : Reading) (h room : ℕ) where
   is-accepted e k = rw (e, le-ltb room (lengthOf (dueLong r)) k)
 
   -- the verdict as the code finds it
-  pub found : (v w : Verdict) (long : Bool) → v ≡ roomFault w long room → w ≡ carryFault base r h → long ≡ dueLong r → v ≡ writeFault base r h room
+  found : (v w : Verdict) (long : Bool) → v ≡ roomFault w long room → w ≡ carryFault base r h → long ≡ dueLong r → v ≡ writeFault base r h room
   unfolding writeFault
   found v w long p q l = rw (p, q, l)
 
@@ -141,7 +142,15 @@ module _ (base : ℕ) (r : Reading) (h : ℕ) (out : List ℕ) where
       enough t (valuesOf r h) out (omega (arith, length-of-marks (dueLong r))) .1 ∙ rw (bytes-are r h, length-row t (valuesOf r h))
 
   -- the buffer, where the marks are laid only if nothing is refused
-  pub left : (v : Verdict) (after : List ℕ) → v ≡ verdict → after ≡ cond (isGood v) (laid (minuteMarks (dueLong r)) (valuesOf r h) out) out
-      → after ≡ filled verdict (bytesOf r h) out
-  left Good after p a = a ∙ stored (sym p) ∙ rw (← p)
-  left (Bad x) after p a = a ∙ rw (← p)
+  left : (v : Verdict) → v ≡ verdict → cond (isGood v) (laid (minuteMarks (dueLong r)) (valuesOf r h) out) out ≡ filled verdict (bytesOf r h) out
+  left Good p = stored (sym p) ∙ rw (← p)
+  left (Bad x) p = rw (← p)
+
+  -- the answer and the buffer, step by step as the code comes to them
+  pub finished : (long good : Bool) (w v : Verdict) (after : List ℕ) (n : ℕ) (a : Written) → long ≡ dueLong r → w ≡ carryFault base r h
+      → v ≡ roomFault w long (length out) → good ≡ isGood v → after ≡ cond good (laid (minuteMarks long) (valuesOf r h) out) out
+      → n ≡ lengthOf long → a ≡ writtenOf v n
+      → (a ≡ writtenOf verdict (lengthOf (dueLong r))) × (after ≡ filled verdict (bytesOf r h) out)
+  finished long good w v after n a l q p g s m e =
+      let f = found base r h (length out) v w long p q l in
+      (e ∙ rw (f, m, l), s ∙ rw (g, l) (left v f))

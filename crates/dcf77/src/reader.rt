@@ -6,9 +6,8 @@ use super::rules::due_long;
 use super::rules::first;
 use super::rules::offset_in;
 use super::rules::places;
+use super::rules::week_of;
 use super::rules::zone_of;
-use calendar::Date;
-use calendar::days::weekday;
 use calendar::months::is_day;
 use calendar::months::is_leap;
 use calendar::months::is_month;
@@ -126,12 +125,7 @@ fn field_fault(r: Reading, w: u32) -> Verdict
 fn weekday_wrong(r: Reading, w: u32) -> bool
     ensures { λ b. ⌜ b ≡ weekdayWrong r w ⌝ }
 {
-    let date = Date {
-        year: r.year,
-        month: r.month,
-        day: r.day,
-    };
-    w != (weekday(date) as u32)
+    w != week_of(r)
 }
 
 fn zone_bad(z: u32) -> bool

@@ -1,5 +1,7 @@
 // What reader and writer share: the two zones, the form that is due, and the order of faults.
 use super::Dcf77;
+use calendar::Date;
+use calendar::days::weekday;
 use reading::Fault;
 use reading::LocalMinusUtc;
 use reading::Reading;
@@ -7,6 +9,8 @@ use reading::Verdict;
 use reading::leap::after_leap;
 use reading::universal::utc_of;
 ghost use mathlib.Core.Path.{_≡_};
+ghost use Rattle.calendar.specs.Calendar.{weekdayOf};
+ghost use Rattle.reading.specs.Universal.{dateOf};
 ghost use Rattle.reading.specs.Faults.{first};
 ghost use Rattle.reading.specs.Writing.{andThen};
 ghost use Rattle.dcf77.specs.Zones.{offsetIn, zoneOf};
@@ -56,6 +60,18 @@ pub(super) fn zone_of(summer: bool) -> u32
         return 1;
     }
     2
+}
+
+// The weekday of the reading's date.
+pub(super) fn week_of(r: Reading) -> u32
+    ensures { λ w. ⌜ w ≡ weekdayOf (dateOf r) ⌝ }
+{
+    let date = Date {
+        year: r.year,
+        month: r.month,
+        day: r.day,
+    };
+    weekday(date) as u32
 }
 
 pub(super) fn length_of(long: bool) -> usize

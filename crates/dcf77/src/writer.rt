@@ -6,10 +6,8 @@ use super::rules::first;
 use super::rules::length_of;
 use super::rules::offset_in;
 use super::rules::places;
+use super::rules::week_of;
 use super::rules::zone_of;
-use calendar::Date;
-use calendar::days::weekday;
-use dcf77_table::groups;
 use reading::Fault;
 use reading::LocalMinusUtc;
 use reading::Reading;
@@ -44,32 +42,44 @@ fn bit(flag: bool) -> u32
     0
 }
 
-// What each group says, with the parity marks left 0.
+// What each group says, in the order of the groups, with the parity marks left 0.
 fn plain_values(r: Reading, head: u16) -> [u32; 32]
     ensures { λ v. ⌜ v ≡ plainOf r head ⌝ }
 {
-    let date = Date {
-        year: r.year,
-        month: r.month,
-        day: r.day,
-    };
-    let mut v = [0u32; 32];
-    v[groups::HEAD] = head as u32;
-    v[groups::CHANGE] = bit(r.change);
-    v[groups::ZONE] = zone_of(r.summer);
-    v[groups::LEAP] = bit(r.leap);
-    v[groups::MINUTES] = (r.minute % 10) as u32;
-    v[groups::TENS_OF_MINUTES] = (r.minute / 10) as u32;
-    v[groups::HOURS] = (r.hour % 10) as u32;
-    v[groups::TENS_OF_HOURS] = (r.hour / 10) as u32;
-    v[groups::DAYS] = (r.day % 10) as u32;
-    v[groups::TENS_OF_DAYS] = (r.day / 10) as u32;
-    v[groups::WEEKDAY] = weekday(date) as u32;
-    v[groups::MONTHS] = (r.month % 10) as u32;
-    v[groups::TENS_OF_MONTHS] = (r.month / 10) as u32;
-    v[groups::YEARS] = (r.year % 10) as u32;
-    v[groups::TENS_OF_YEARS] = (r.year / 10 % 10) as u32;
-    v
+    [
+        0,
+        0,
+        0,
+        head as u32,
+        bit(r.change),
+        zone_of(r.summer),
+        bit(r.leap),
+        (r.minute % 10) as u32,
+        (r.minute / 10) as u32,
+        0,
+        (r.hour % 10) as u32,
+        (r.hour / 10) as u32,
+        0,
+        (r.day % 10) as u32,
+        (r.day / 10) as u32,
+        week_of(r),
+        (r.month % 10) as u32,
+        (r.month / 10) as u32,
+        (r.year % 10) as u32,
+        (r.year / 10 % 10) as u32,
+        0,
+        0,
+        0,
+        0,
+        0,
+        0,
+        0,
+        0,
+        0,
+        0,
+        0,
+        0,
+    ]
 }
 
 // The mark at `to` that makes the ones from `from` on even in number.

@@ -1,11 +1,18 @@
 -- `dcf77::Dcf77::read` meets its contract. Assumes nothing.
 use borrow.Author.Needs.{needs}
-use Rattle.dcf77.proofs.ReadLaws.{found-good, found-sums, found-proper, found-head, wrong-length, wrong-mark, marks-told}
+use Rattle.dcf77.proofs.ReadLaws.{found-good, found-all, found-sums, found-proper, found-head, wrong-length, wrong-mark, marks-told}
 use Rattle.reading.specs.Years.{base}
 use denote.Ref.{now}
-use native.Mathlib.Omega.{arith}
+use mathlib.Core.Bool.{false}
+use mathlib.Core.Path.{_≡_, sym, _∙_}
+use lib.ListN.{length}
+use Rattle.dcf77.specs.Reader.{lengthBad}
 use Rattle.dcf77.proofs.Dcf77.read.Statement.{statement}
 use Rattle.dcf77.proofs.Dcf77.read.Tie as tie
+
+-- where the first test was passed, the length is right
+right-length : (c : tie.Else1) → lengthBad (length (now (c .before .before .before .args .s))) ≡ false
+right-length c = sym (c .before .length-bad .ensures) ∙ c .if1 .left
 
 length-bad-requires : tie.Need-length-bad-requires
 length-bad-requires c κs = search needs
@@ -14,7 +21,9 @@ refusal-of-requires : tie.Need-refusal-of-requires
 refusal-of-requires c κs = search needs
 
 returns : tie.Need-returns
-returns c = wrong-length _ _ _ (cc) (cc)
+returns c =
+    let l = c .before .before in
+    wrong-length base (now (l .before .before .args .s)) _ (sym (l .length-bad .ensures) ∙ c .before .if1 .taken) (c .refusal-of .ensures)
 
 scanned-requires : tie.Need-scanned-requires
 scanned-requires c κs = search needs
@@ -25,7 +34,8 @@ refusal-of-requires-2 c κs = search needs
 returns-2 : tie.Need-returns-2
 returns-2 c =
     let g = c .before .before in
-    wrong-mark base (now (g .before .before .before .before .args .s)) (cc) _ _ (found-good _ _ (g .scanned .ensures)) (omega arith) (cc)
+    let s = now (g .before .before .before .before .args .s) in
+    wrong-mark base s (right-length (g .before)) _ _ (found-good s (g .scanned .result) (g .scanned .ensures)) (c .before .if2 .taken) (c .refusal-of2 .ensures)
 
 reading-of-requires : tie.Need-reading-of-requires
 reading-of-requires c κs =
@@ -50,9 +60,10 @@ returns-3 : tie.Need-returns-3
 returns-3 c =
     let g = c .before .before .before .before .before in
     let s = now (g .before .before .before .before .args .s) in
-    let good = found-good s (g .scanned .result) (g .scanned .ensures) in
-    let sums = found-sums s (g .scanned .result) (g .scanned .ensures) (omega arith) in
-    marks-told base s (cc) (g .scanned .result .sums) (c .before .before .reading-of .result) (c .before .said-fault .result) _ (omega arith) sums (cc) (cc) (cc)
+    let all = c .before .before .before .before .if2 .left in
+    marks-told base s (right-length (g .before)) (g .scanned .result .sums) (c .before .before .reading-of .result) (c .before .said-fault .result) (c .told .result)
+    (found-all s (g .scanned .result) (g .scanned .ensures) all) (found-sums s (g .scanned .result) (g .scanned .ensures) all)
+    (c .before .before .reading-of .ensures) (c .before .said-fault .ensures) (c .told .ensures)
 
 pub read-spec : {M : Type 1} → statement M
 read-spec =

@@ -1,13 +1,11 @@
 -- `dcf77::Dcf77::write` meets its contract. Assumes nothing.
-use native.Mathlib.Omega.{arith}
 use borrow.Author.Needs.{needs}
 use denote.Ref.{now}
-use mathlib.Core.Path.{_≡_, refl, ap}
+use mathlib.Core.Path.{refl, ap}
 use lib.ListN.{length}
 use Rattle.reading.specs.declared.Written.the-variants.{No}
 use Rattle.reading.specs.Years.{base}
-use Rattle.dcf77.specs.Writer.{writeFault}
-use Rattle.dcf77.proofs.WriteLaws.{found, left}
+use Rattle.dcf77.proofs.WriteLaws.{finished}
 use Rattle.dcf77.proofs.LengthLaws.{too-few-bytes}
 use Rattle.dcf77.proofs.Dcf77.write.Statement.{statement}
 use Rattle.dcf77.proofs.Dcf77.write.Tie as tie
@@ -18,8 +16,7 @@ refusal-of-requires c κs = search needs
 returns : tie.Need-returns
 returns c =
     let a = c .before .before .before .args in
-    let out = now (a .out) in
-    let e = too-few-bytes base (a .r) (a .head) (length out) (omega arith) in
+    let e = too-few-bytes base (a .r) (a .head) (length (now (a .out))) (c .before .if1 .taken) in
     rw e (ap No (c .refusal-of .ensures), refl)
 
 due-long-requires : tie.Need-due-long-requires
@@ -48,13 +45,12 @@ same-length c = search needs
 
 returns-2 : tie.Need-returns-2
 returns-2 c =
-    let room = c .before .before .before .before .before .before .before in
+    let stored = c .before .before .before .before in
+    let room = stored .before .before .before in
     let a = room .before .before .before .before .before .args in
-    let out = now (a .out) in
-    let verdict = room .room-fault .result in
-    let v : verdict ≡ writeFault base (a .r) (a .head) (length out) =
-    found base (a .r) (a .head) (length out) verdict (room .before .carry-fault .result) (room .before .before .due-long .result) (cc) (cc) (cc) in
-    (cc, left base (a .r) (a .head) out verdict (c .before .before .before .before .store .last .1 .0) v (cc))
+    finished base (a .r) (a .head) (now (a .out)) _ _ _ _ _ _ _
+    (room .before .before .due-long .ensures) (room .before .carry-fault .ensures) (room .room-fault .ensures)
+    (stored .before .before .is-good .ensures) (stored .store .ensures) (c .before .length-of .ensures) (c .written .ensures)
 
 pub write-spec : {M : Type 1} → statement M
 write-spec =

@@ -39,7 +39,14 @@ first-requires-5 c κs = search needs
 
 returns : tie.Need-returns
 unfolding digitFault
-returns c = cc
+returns c =
+    rw (
+      c .first5 .ensures,
+      c .before .first4 .ensures,
+      c .before .before .first3 .ensures,
+      c .before .before .before .first2 .ensures,
+      c .before .before .before .before .first .ensures,
+    )
 
 pub digit-fault-spec : {M : Type 1} → statement M
 digit-fault-spec =

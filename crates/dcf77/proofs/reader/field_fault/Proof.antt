@@ -33,7 +33,18 @@ first-requires-5 c κs = search needs
 
 returns : tie.Need-returns
 unfolding fieldFault
-returns c = cc
+returns c =
+    rw (
+      c .first5 .ensures,
+      c .before .minute-bad .ensures,
+      c .before .before .first4 .ensures,
+      c .before .before .before .hour-bad .ensures,
+      c .before .before .before .before .first3 .ensures,
+      c .before .before .before .before .before .day-bad .ensures,
+      c .before .before .before .before .before .before .first2 .ensures,
+      c .before .before .before .before .before .before .before .first .ensures,
+      c .before .before .before .before .before .before .before .before .is-month .ensures,
+    )
 
 pub field-fault-spec : {M : Type 1} → statement M
 field-fault-spec =

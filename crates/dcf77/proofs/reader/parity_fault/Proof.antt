@@ -24,7 +24,15 @@ first-requires-3 c κs = search needs
 
 returns : tie.Need-returns
 unfolding parityFault
-returns c = cc
+returns c =
+    rw (
+      c .first3 .ensures,
+      c .before .first2 .ensures,
+      c .before .before .first .ensures,
+      c .before .before .before .odd3 .ensures,
+      c .before .before .before .before .odd2 .ensures,
+      c .before .before .before .before .before .odd .ensures,
+    )
 
 pub parity-fault-spec : {M : Type 1} → statement M
 parity-fault-spec =

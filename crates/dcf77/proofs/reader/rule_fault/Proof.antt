@@ -27,7 +27,16 @@ first-requires-3 c κs = search needs
 
 returns : tie.Need-returns
 unfolding ruleFault
-returns c = cc
+returns c =
+    rw (
+      c .first3 .ensures,
+      c .before .weekday-wrong .ensures,
+      c .before .before .first2 .ensures,
+      c .before .before .before .zone-bad .ensures,
+      c .before .before .before .before .first .ensures,
+      c .before .before .before .before .before .last-of .ensures,
+      c .before .before .before .before .before .before .due-long .ensures,
+    )
 
 pub rule-fault-spec : {M : Type 1} → statement M
 rule-fault-spec =

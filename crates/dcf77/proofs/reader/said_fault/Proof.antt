@@ -34,7 +34,16 @@ and-then-requires-3 c κs = search needs
 
 returns : tie.Need-returns
 unfolding saidFault isLong
-returns c = cc
+returns c =
+    rw (
+      c .and-then3 .ensures,
+      c .before .digit-fault .ensures,
+      c .before .before .and-then2 .ensures,
+      c .before .before .before .parity-fault .ensures,
+      c .before .before .before .before .and-then .ensures,
+      c .before .before .before .before .before .field-fault .ensures,
+      c .before .before .before .before .before .before .rule-fault .ensures,
+    )
 
 pub said-fault-spec : {M : Type 1} → statement M
 said-fault-spec =

@@ -1,18 +1,14 @@
 -- `dcf77::reader::weekday_wrong` meets its contract. Assumes nothing.
-use borrow.Author.Needs.{needs}
 use Rattle.dcf77.specs.Reader.{weekdayWrong}
 use Rattle.dcf77.proofs.reader.weekday_wrong.Statement.{statement}
 use Rattle.dcf77.proofs.reader.weekday_wrong.Tie as tie
 
-weekday-requires : tie.Need-weekday-requires
-weekday-requires c κs = search needs
-
-cast-result : tie.Need-cast-result
-cast-result c = search needs
+week-of-requires : tie.Need-week-of-requires
+week-of-requires c κs = tt
 
 returns : tie.Need-returns
 unfolding weekdayWrong
-returns c = rw (c .weekday .ensures)
+returns c = rw (c .week-of .ensures)
 
 pub weekday-wrong-spec : {M : Type 1} → statement M
-weekday-wrong-spec = tie.close (tie.spec weekday-requires cast-result returns)
+weekday-wrong-spec = tie.close (tie.spec week-of-requires returns)

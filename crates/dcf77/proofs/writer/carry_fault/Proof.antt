@@ -18,7 +18,13 @@ and-then-requires c κs = search needs
 
 returns : tie.Need-returns
 unfolding carryFault
-returns c = cc
+returns c =
+    rw (
+      c .and-then .ensures,
+      c .before .checked-with .ensures,
+      c .before .before .first .ensures,
+      c .before .before .before .not-carried .ensures,
+    )
 
 pub carry-fault-spec : {M : Type 1} → statement M
 carry-fault-spec =

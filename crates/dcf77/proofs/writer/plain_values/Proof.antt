@@ -1,141 +1,98 @@
 -- `dcf77::writer::plain_values` meets its contract. Assumes nothing.
-use borrow.Author.Needs.{needs}
-use Rattle.dcf77.specs.Writer.{plainOf}
+use native.Mathlib.Omega.{arith}
+use mathlib.Core.List.{[], _∷_}
+use mathlib.Core.Path.{_≡_}
+use Prim.Native.Nat.{ℕ, _/_, _%_}
+use mir.Syntax.{w32}
+use mir.Val.{Fits}
+use Rattle.calendar.specs.Calendar.{weekdayOf}
+use Rattle.reading.specs.declared.Reading.{Reading}
+use Rattle.reading.specs.Universal.{dateOf}
+use Rattle.dcf77.specs.Zones.{zoneOf}
+use Rattle.dcf77.specs.Writer.{bit, plainOf}
 use Rattle.dcf77.proofs.writer.plain_values.Statement.{statement}
 use Rattle.dcf77.proofs.writer.plain_values.Tie as tie
 
-array-write-v : tie.Need-array-write-v
-array-write-v c = search needs
+-- the list as the code comes to it
+listed : (r : Reading) (h c z l w : ℕ) → c ≡ bit (r .change) → z ≡ zoneOf (r .summer) → l ≡ bit (r .leap) → w ≡ weekdayOf (dateOf r)
+    → (0 ∷ 0 ∷ 0 ∷ h ∷ c ∷ z ∷ l
+    ∷ r .minute % 10 ∷ r .minute / 10 ∷ 0
+    ∷ r .hour % 10 ∷ r .hour / 10 ∷ 0
+    ∷ r .day % 10 ∷ r .day / 10 ∷ w
+    ∷ r .month % 10 ∷ r .month / 10
+    ∷ r .year % 10 ∷ r .year / 10 % 10 ∷ 0
+    ∷ 0 ∷ 0 ∷ 0 ∷ 0 ∷ 0 ∷ 0 ∷ 0 ∷ 0 ∷ 0 ∷ 0 ∷ 0 ∷ [])
+    ≡ plainOf r h
+unfolding plainOf
+listed r h c z l w ec ez el ew = rw (ec, ez, el, ew)
+
+digit-fits : (n : ℕ) → Fits w32 (n % 10)
+digit-fits n = record { fits = omega arith }
 
 bit-requires : tie.Need-bit-requires
-bit-requires c κs = search needs
-
-array-write-v-2 : tie.Need-array-write-v-2
-array-write-v-2 c = search needs
+bit-requires c κs = tt
 
 zone-of-requires : tie.Need-zone-of-requires
-zone-of-requires c κs = search needs
-
-array-write-v-3 : tie.Need-array-write-v-3
-array-write-v-3 c = search needs
+zone-of-requires c κs = tt
 
 bit-requires-2 : tie.Need-bit-requires-2
-bit-requires-2 c κs = search needs
+bit-requires-2 c κs = tt
 
-array-write-v-4 : tie.Need-array-write-v-4
-array-write-v-4 c = search needs
+cast-t8 : tie.Need-cast-t8
+cast-t8 c = digit-fits _
 
-cast-v : tie.Need-cast-v
-cast-v c = search needs
+cast-t10 : tie.Need-cast-t10
+cast-t10 c = omega arith
 
-array-write-v-5 : tie.Need-array-write-v-5
-array-write-v-5 c = search needs
+cast-t12 : tie.Need-cast-t12
+cast-t12 c = digit-fits _
 
-cast-v-2 : tie.Need-cast-v-2
-cast-v-2 c = search needs
+cast-t14 : tie.Need-cast-t14
+cast-t14 c = omega arith
 
-array-write-v-6 : tie.Need-array-write-v-6
-array-write-v-6 c = search needs
+cast-t16 : tie.Need-cast-t16
+cast-t16 c = digit-fits _
 
-cast-v-3 : tie.Need-cast-v-3
-cast-v-3 c = search needs
+cast-t18 : tie.Need-cast-t18
+cast-t18 c = omega arith
 
-array-write-v-7 : tie.Need-array-write-v-7
-array-write-v-7 c = search needs
+week-of-requires : tie.Need-week-of-requires
+week-of-requires c κs = tt
 
-cast-v-4 : tie.Need-cast-v-4
-cast-v-4 c = search needs
+cast-t21 : tie.Need-cast-t21
+cast-t21 c = digit-fits _
 
-array-write-v-8 : tie.Need-array-write-v-8
-array-write-v-8 c = search needs
+cast-t23 : tie.Need-cast-t23
+cast-t23 c = omega arith
 
-cast-v-5 : tie.Need-cast-v-5
-cast-v-5 c = search needs
+cast-t25 : tie.Need-cast-t25
+cast-t25 c = digit-fits _
 
-array-write-v-9 : tie.Need-array-write-v-9
-array-write-v-9 c = search needs
-
-cast-v-6 : tie.Need-cast-v-6
-cast-v-6 c = search needs
-
-array-write-v-10 : tie.Need-array-write-v-10
-array-write-v-10 c = search needs
-
-weekday-requires : tie.Need-weekday-requires
-weekday-requires c κs = search needs
-
-cast-v-7 : tie.Need-cast-v-7
-cast-v-7 c = search needs
-
-array-write-v-11 : tie.Need-array-write-v-11
-array-write-v-11 c = search needs
-
-cast-v-8 : tie.Need-cast-v-8
-cast-v-8 c = search needs
-
-array-write-v-12 : tie.Need-array-write-v-12
-array-write-v-12 c = search needs
-
-cast-v-9 : tie.Need-cast-v-9
-cast-v-9 c = search needs
-
-array-write-v-13 : tie.Need-array-write-v-13
-array-write-v-13 c = search needs
-
-cast-v-10 : tie.Need-cast-v-10
-cast-v-10 c = search needs
-
-array-write-v-14 : tie.Need-array-write-v-14
-array-write-v-14 c = search needs
-
-cast-v-11 : tie.Need-cast-v-11
-cast-v-11 c = search needs
-
-array-write-v-15 : tie.Need-array-write-v-15
-array-write-v-15 c = search needs
+cast-t28 : tie.Need-cast-t28
+cast-t28 c = digit-fits _
 
 returns : tie.Need-returns
-unfolding plainOf
 returns c =
-    rw (
-      c .before .before .before .before .before .before .before .before .before .before .before .before .before .bit .ensures,
-      c .before .before .before .before .before .before .before .before .before .before .before .before .zone-of .ensures,
-      c .before .before .before .before .before .before .before .before .before .before .before .bit2 .ensures,
-      c .before .before .before .before .weekday .ensures,
-    )
+    let flags = c .before .before .before .before .before .before .before .before .before .before .before in
+    let a = flags .before .before .before .args in
+    listed (a .r) (a .head) _ _ _ _ (flags .before .before .bit .ensures) (flags .before .zone-of .ensures) (flags .bit2 .ensures) (c .before .before .before .before .week-of .ensures)
 
 pub plain-values-spec : {M : Type 1} → statement M
 plain-values-spec =
     tie.close
     (tie.spec
-    array-write-v
     bit-requires
-    array-write-v-2
     zone-of-requires
-    array-write-v-3
     bit-requires-2
-    array-write-v-4
-    cast-v
-    array-write-v-5
-    cast-v-2
-    array-write-v-6
-    cast-v-3
-    array-write-v-7
-    cast-v-4
-    array-write-v-8
-    cast-v-5
-    array-write-v-9
-    cast-v-6
-    array-write-v-10
-    weekday-requires
-    cast-v-7
-    array-write-v-11
-    cast-v-8
-    array-write-v-12
-    cast-v-9
-    array-write-v-13
-    cast-v-10
-    array-write-v-14
-    cast-v-11
-    array-write-v-15
-    returns)
+    cast-t8
+    cast-t10
+    cast-t12
+    cast-t14
+    cast-t16
+    cast-t18
+    week-of-requires
+    cast-t21
+    cast-t23
+    cast-t25
+    cast-t28
+    returns)  -- 1
