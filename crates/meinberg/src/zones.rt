@@ -1,7 +1,8 @@
 // The zones of a Meinberg string: the one place where their offsets stand.
 use reading::LocalMinusUtc;
 ghost use mathlib.Core.Path.{_≡_};
-ghost use Rattle.meinberg.specs.Zones.{offsetOf, summerOf, sameOffset, isZone, zoneCarried, zoneLetter};
+ghost use Rattle.laws.proofs.Signed.{same};
+ghost use Rattle.meinberg.specs.Zones.{offsetOf, summerOf, isZone, zoneCarried, zoneLetter};
 
 pub fn offset_of(letter: u8) -> LocalMinusUtc
     ensures { λ o. ⌜ o ≡ record { 0 = offsetOf letter } ⌝ }
@@ -22,7 +23,7 @@ pub fn summer_of(letter: u8) -> bool
 }
 
 fn same_offset(a: LocalMinusUtc, b: LocalMinusUtc) -> bool
-    ensures { λ r. ⌜ r ≡ sameOffset (a .0) (b .0) ⌝ }
+    ensures { λ r. ⌜ r ≡ same (a .0) (b .0) ⌝ }
 {
     (a.west() == b.west()) & (a.east() == b.east())
 }
