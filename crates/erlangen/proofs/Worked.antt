@@ -119,11 +119,10 @@ pub worked-carried : writeFault base (reading hourAhead) (replicate 26 32) size 
 unfolding reading writeFault lengthBad carriedOf notCarried printables printable checkedOf timeBad dateBad inHundred isDate isMonth isDay lastDay daysIn leapYear offsetGood west east sixtyBad
 worked-carried = refl
 
--- `+14:00`, `-12:00`, `+05:30`, `-05:00`, and a leap second with its mark
+-- `+14:00`, `-12:00`, and a leap second with its mark
 abbrev accepted : List (List ℕ)
 accepted =
-    string usual (ahead 1 4 0 0) none ∷ string usual (behind 1 2 0 0) none ∷ string usual (ahead 0 5 3 0) none ∷ string usual (behind 0 5 0 0) none
-    ∷ string sixty (ahead 0 0 0 0) leapMark ∷ []
+    string usual (ahead 1 4 0 0) none ∷ string usual (behind 1 2 0 0) none ∷ string sixty (ahead 0 0 0 0) leapMark ∷ []
 
 -- `#`, `*`, `S`, `!` and `A`, each alone
 abbrev lettered : List (List ℕ)
@@ -132,20 +131,15 @@ lettered =
     ∷ string usual (ahead 0 2 0 0) (letters 32 32 83 32 32 32) ∷ string usual (ahead 0 1 0 0) (letters 32 32 32 33 32 32)
     ∷ string usual (ahead 0 1 0 0) (letters 32 32 32 32 65 32) ∷ []
 
--- weekdays 0, 8 and 9; month 13, also with `+00:10`, which is no offset
+-- weekdays 0 and 8, and month 13 with `+00:10`, which is no offset
 abbrev out-of-range : List (List ℕ)
 out-of-range =
-    string (on 0 2 0) (ahead 0 1 0 0) none ∷ string (on 0 2 8) (ahead 0 1 0 0) none ∷ string (on 0 2 9) (ahead 0 1 0 0) none
-    ∷ string (on 1 3 4) (ahead 0 1 0 0) none ∷ string (on 1 3 4) (ahead 0 0 1 0) none ∷ []
+    string (on 0 2 0) (ahead 0 1 0 0) none ∷ string (on 0 2 8) (ahead 0 1 0 0) none ∷ string (on 1 3 4) (ahead 0 0 1 0) none ∷ []
 
--- another weekday than the date's, also with `-00:00`, which is no offset
-abbrev weekday-wrong : List (List ℕ)
-weekday-wrong = string (on 0 2 3) (ahead 0 1 0 0) none ∷ string (on 0 2 3) (behind 0 0 0 0) none ∷ []
-
--- strings that say no offset: `+14:30`, `-12:30`, `-00:00`, `+00:10`, `+00:60`, `+99:99`, `+01:01`
+-- strings that say no offset: `+14:30`, `-12:30`, `-00:00`, `+00:60`, `+99:99`, `+01:01`
 abbrev offset-wrong : List (List ℕ)
 offset-wrong =
-    string usual (ahead 1 4 3 0) none ∷ string usual (behind 1 2 3 0) none ∷ string usual (behind 0 0 0 0) none ∷ string usual (ahead 0 0 1 0) none
+    string usual (ahead 1 4 3 0) none ∷ string usual (behind 1 2 3 0) none ∷ string usual (behind 0 0 0 0) none
     ∷ string usual (ahead 0 0 6 0) none ∷ string usual (ahead 9 9 9 9) none ∷ string usual (ahead 0 1 0 1) none ∷ []
 
 -- a leap second without its mark, a mark without its leap second, and a leap second an hour too late
@@ -156,15 +150,14 @@ pub worked-read :
     (readErlangen base (string usual (ahead 0 1 0 0) none) ≡ Time (reading hourAhead) false)
     × (readErlangen base (string usual (ahead 0 0 0 0) none) ≡ Time (reading (pos 0)) false)
     × (map (readErlangen base) accepted
-    ≡ Time (reading (pos 28)) false ∷ Time (reading (negsuc 23)) false ∷ Time (reading (pos 11)) false ∷ Time (reading (negsuc 9)) false
-    ∷ Time atLeapSecond false ∷ [])
+    ≡ Time (reading (pos 28)) false ∷ Time (reading (negsuc 23)) false ∷ Time atLeapSecond false ∷ [])
     × (map (readErlangen base) lettered
     ≡ Time (flagged (pos 2) false false false 15) false ∷ Time (flagged (pos 2) false false false 0) true ∷ Time (flagged (pos 4) true false false 0) false
     ∷ Time (flagged (pos 2) false false true 0) false ∷ Time (flagged (pos 2) false true false 0) false ∷ [])
     × (readErlangen base (string usual (ahead 0 1 0 0) (letters 37 32 32 32 32 32)) ≡ No (record { code = 2; place = 32 }))
-    × (map (readErlangen base) out-of-range ≡ replicate 5 (refused 5))
-    × (map (readErlangen base) weekday-wrong ≡ replicate 2 (refused 6))
-    × (map (readErlangen base) offset-wrong ≡ replicate 7 (refused 8))
+    × (map (readErlangen base) out-of-range ≡ replicate 3 (refused 5))
+    × (readErlangen base (string (on 0 2 3) (behind 0 0 0 0) none) ≡ refused 6)
+    × (map (readErlangen base) offset-wrong ≡ replicate 6 (refused 8))
     × (map (readErlangen base) leap-wrong ≡ replicate 3 (refused 9))
 unfolding reading string readErlangen faultIn readingOf coastingSaid weekdaySaid offsetWrong markWrong shows layout goodPlaces allowed within beside exactly from either packed digit pair yearOf offsetOf offsetBad wholeUnits unitsOf tooFar signed faultOf dayBad monthBad weekdayBad weekdayWrong sixtyBad leapMinute closesWithLeap utcOf utcMinutes onDay west east isMonth isDay lastDay weekdayOf dayNumber dayOfYear daysBeforeYear daysBefore daysIn yearLength leapYear number
 worked-read = (refl, refl, refl, refl, refl, refl, refl, refl, refl)
