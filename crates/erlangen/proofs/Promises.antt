@@ -7,9 +7,9 @@ use Prim.Native.Nat.{ℕ, _≤_, _<_}
 use native.Mathlib.Omega.{arith}
 use lib.ListN.{length, take, drop}
 use lib.Seq.{take-at, drop-at}
-use borrow.Author.Tests.{lt-ltb, eq-eqb}
+use borrow.Author.Tests.{lt-ltb, le-ltb, eq-eqb}
 use Rattle.wire.specs.Layout.{goodPlaces, printables}
-use Rattle.wire.proofs.LayoutLaws.{allowedAt, first-bad}
+use Rattle.wire.proofs.LayoutLaws.{allowedAt, first-bad, printableAt, first-unprintable-is}
 use Rattle.reading.specs.declared.Reading.{Reading}
 use Rattle.reading.specs.declared.Refusal.{Refusal}
 use Rattle.reading.specs.declared.Fault.{Fault}
@@ -29,7 +29,7 @@ use Rattle.strings.specs.declared.Answer.the-variants.{Time}
 use Rattle.strings.specs.Checks.{answerOf}
 use Rattle.erlangen.specs.Layout.{size, positionAt, positionSize, layout}
 use Rattle.erlangen.specs.Meaning.{readingOf, coastingSaid, faultIn, readErlangen, positionOf}
-use Rattle.erlangen.specs.Writing.{bytesOf, writeFault}
+use Rattle.erlangen.specs.Writing.{bytesOf, lengthBad, writeFault}
 use Rattle.erlangen.proofs.FaultLaws.{Accepted, accepted-is, is-accepted, carried-is, is-carried}
 use Rattle.erlangen.proofs.BytesLaws.{bytes-length}
 use Rattle.erlangen.proofs.ReadLaws.{bytes-back, position-length, position-printable, reading-checked, reading-carried}
@@ -193,3 +193,11 @@ unfolding faultIn
 lowest-place base s k l e h =
     let b = first-bad layout s k e (omega (arith, layout-length)) (omega arith) in
     (rw (eq-eqb (length s) size l, e, lt-ltb k size h), b .0, b .1)
+
+-- "printable (2, place within it)": the writer tells the lowest place of the position part whose byte is not
+pub lowest-unprintable : (base : ℕ) (r : Reading) (position : List ℕ) (room k : ℕ) → size ≤ room → length position ≡ positionSize → k < positionSize
+    → printableAt position k ≡ false → ((i : ℕ) → i < k → printableAt position i ≡ true) → writeFault base r position room ≡ Bad (Byte k)
+unfolding writeFault lengthBad
+lowest-unprintable base r position room k h l b e f =
+    let n = first-unprintable-is position k (omega arith) e f in
+    rw (le-ltb room size h, eq-eqb (length position) positionSize l, n, lt-ltb k positionSize b)

@@ -2,7 +2,7 @@
 use mathlib.Core.Bool.{Bool, false}
 use mathlib.Core.List.{List}
 use mathlib.Core.Path.{_≡_, refl, sym, ap, _∙_}
-use Prim.Native.Nat.{ℕ, _/_}
+use Prim.Native.Nat.{ℕ}
 use native.Mathlib.Omega.{arith}
 use lib.IntN.{pos}
 use lib.ListN.{length, replicate}
@@ -12,23 +12,22 @@ use Rattle.reading.specs.declared.Refusal.{Refusal}
 use Rattle.reading.specs.declared.Fault.the-variants.{Byte}
 use Rattle.reading.specs.Faults.{number}
 use Rattle.reading.specs.Years.{base}
-use Rattle.reading.specs.Offset.{unit}
 use Rattle.reading.specs.Writing.{filled}
 use Rattle.reading.proofs.CheckLaws.{clash}
 use Rattle.strings.specs.declared.Answer.{Answer}
 use Rattle.strings.specs.declared.Answer.the-variants.{Time, No}
-use Rattle.erlangen.specs.Layout.{size, positionSize, space, plus, layout}
+use Rattle.erlangen.specs.Layout.{size, layout}
 use Rattle.erlangen.specs.Meaning.{faultIn, readErlangen}
 use Rattle.erlangen.specs.Writing.{bytesOf, writeFault}
 use Rattle.erlangen.proofs.Promises.{written-reads, bytes-read}
-use Rattle.erlangen.proofs.Worked.{usual, at, string, hourAhead, reading, worked-carried, worked-read}
+use Rattle.erlangen.proofs.Worked.{usual, ahead, none, string, hourAhead, reading, worked-carried, worked-read}
 
 abbrev spaces : List ℕ
-spaces = replicate positionSize space
+spaces = replicate 26 32
 
 different : reading hourAhead ≡ reading (pos 0) → ⊥
 unfolding reading
-different e = let z : hourAhead ≡ pos 0 = ap (λ (r : Reading). r .offset .0) e in let n : 60 / unit ≡ 0 = cc in omega arith
+different e = let z : hourAhead ≡ pos 0 = ap (λ (r : Reading). r .offset .0) e in let n : _≡_ {A = ℕ} 2 0 = cc in omega arith
 
 zeros-refused : readErlangen base (replicate size 0) ≡ No (number (Byte 0))
 unfolding readErlangen faultIn layout goodPlaces allowed within beside exactly from either packed
@@ -48,8 +47,8 @@ refuses-everything f meets refuses =
 pub tells-one-time : (f : List ℕ → Answer) (r : Reading) → ((s : List ℕ) → f s ≡ readErlangen base s)
     → ((s : List ℕ) (t : Reading) (coasting : Bool) → f s ≡ Time t coasting → t ≡ r) → ⊥
 tells-one-time f r meets one =
-    let a = one (string usual (at plus 0 1 0 0) space) (reading hourAhead) false (meets _ ∙ worked-read .0) in
-    let b = one (string usual (at plus 0 0 0 0) space) (reading (pos 0)) false (meets _ ∙ worked-read .1) in
+    let a = one (string usual (ahead 0 1 0 0) none) (reading hourAhead) false (meets _ ∙ worked-read .0) in
+    let b = one (string usual (ahead 0 0 0 0) none) (reading (pos 0)) false (meets _ ∙ worked-read .1) in
     different (a ∙ sym b)
 
 -- "a writer that leaves the buffer as found (demand 2's reading back, from any start)": a buffer of zeros would have to read as a time

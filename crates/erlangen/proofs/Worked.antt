@@ -1,25 +1,26 @@
--- 2024-02-29 12:34:56 read and written, which offsets a string may say, and the mark of a leap second: computed from the definitions.
-use mathlib.Core.Bool.{false}
+-- 2024-02-29 12:34:56 read and written, which offsets a string may say, what each letter says, the mark of a leap second, and
+-- which of several faults is told: literal bytes and literal answers, computed from the definitions.
+use mathlib.Core.Bool.{Bool, true, false}
 use mathlib.Core.List.{List, [], _∷_, _++_, map}
 use mathlib.Core.Path.{_≡_, refl}
-use Prim.Native.Nat.{ℕ, _+_, _/_}
-use lib.IntN.{ℤ, pos}
+use Prim.Native.Nat.{ℕ, _+_}
+use lib.IntN.{ℤ, pos, negsuc}
 use lib.ListN.{replicate}
 use Rattle.wire.specs.Layout.{packed, exactly, from, either, within, beside, allowed, goodPlaces, printable, printables}
 use Rattle.wire.specs.Digits.{digit, pair, tens, ones}
 use Rattle.calendar.specs.Calendar.{leapYear, daysIn, lastDay, isMonth, isDay, isDate, daysBefore, dayOfYear, yearLength, daysBeforeYear, dayNumber, weekdayOf}
 use Rattle.reading.specs.declared.Reading.{Reading}
-use Rattle.reading.specs.declared.Fault.the-variants.{Offset, LeapSecond}
-use Rattle.reading.specs.declared.Verdict.the-variants.{Good, Bad}
+use Rattle.reading.specs.declared.Verdict.the-variants.{Good}
 use Rattle.reading.specs.Faults.{number}
 use Rattle.reading.specs.Years.{base, inHundred, yearOf}
-use Rattle.reading.specs.Offset.{unit, west, east, offsetGood}
+use Rattle.reading.specs.Offset.{west, east, offsetGood}
 use Rattle.reading.specs.Universal.{utcMinutes, onDay, utcOf}
 use Rattle.reading.specs.Leap.{closesWithLeap, leapMinute, sixtyBad}
 use Rattle.reading.specs.Checks.{timeBad, dateBad, checkedOf}
-use Rattle.strings.specs.declared.Answer.the-variants.{Time}
+use Rattle.strings.specs.declared.Answer.{Answer}
+use Rattle.strings.specs.declared.Answer.the-variants.{Time, No}
 use Rattle.strings.specs.Checks.{dayBad, monthBad, weekdayBad, weekdayWrong, faultOf}
-use Rattle.erlangen.specs.Layout.{size, positionSize, stx, etx, space, dot, colon, semicolon, plus, minus, letterL, layout}
+use Rattle.erlangen.specs.Layout.{size, layout}
 use Rattle.erlangen.specs.Offset.{wholeUnits, unitsOf, tooFar, offsetBad, signed, offsetOf, isBehind, minutesOf}
 use Rattle.erlangen.specs.Meaning.{shows, weekdaySaid, coastingSaid, offsetWrong, markWrong, readingOf, faultIn, readErlangen}
 use Rattle.erlangen.specs.Writing.{dateBytes, timeBytes, offsetBytes, flagBytes, bytesOf, notCarried, lengthBad, carriedOf, writeFault}
@@ -28,81 +29,135 @@ use Rattle.erlangen.specs.Writing.{dateBytes, timeBytes, offsetBytes, fl
 abbrev d : ℕ → ℕ
 d n = 48 + n
 
+-- `29.mm.24; w; 12:34:56; `
+abbrev on : ℕ → ℕ → ℕ → List ℕ
+on m n w =
+    d 2 ∷ d 9 ∷ 46 ∷ d m ∷ d n ∷ 46 ∷ d 2 ∷ d 4 ∷ 59 ∷ 32 ∷ d w ∷ 59 ∷ 32
+    ∷ d 1 ∷ d 2 ∷ 58 ∷ d 3 ∷ d 4 ∷ 58 ∷ d 5 ∷ d 6 ∷ 59 ∷ 32 ∷ []
+
 -- `29.02.24; 4; 12:34:56; `
 abbrev pub usual : List ℕ
-usual =
-    d 2 ∷ d 9 ∷ dot ∷ d 0 ∷ d 2 ∷ dot ∷ d 2 ∷ d 4 ∷ semicolon ∷ space ∷ d 4 ∷ semicolon ∷ space
-    ∷ d 1 ∷ d 2 ∷ colon ∷ d 3 ∷ d 4 ∷ colon ∷ d 5 ∷ d 6 ∷ semicolon ∷ space ∷ []
+usual = on 0 2 4
 
 -- `31.12.16; 6; 23:59:60; `
-abbrev pub sixty : List ℕ
+abbrev sixty : List ℕ
 sixty =
-    d 3 ∷ d 1 ∷ dot ∷ d 1 ∷ d 2 ∷ dot ∷ d 1 ∷ d 6 ∷ semicolon ∷ space ∷ d 6 ∷ semicolon ∷ space
-    ∷ d 2 ∷ d 3 ∷ colon ∷ d 5 ∷ d 9 ∷ colon ∷ d 6 ∷ d 0 ∷ semicolon ∷ space ∷ []
+    d 3 ∷ d 1 ∷ 46 ∷ d 1 ∷ d 2 ∷ 46 ∷ d 1 ∷ d 6 ∷ 59 ∷ 32 ∷ d 6 ∷ 59 ∷ 32
+    ∷ d 2 ∷ d 3 ∷ 58 ∷ d 5 ∷ d 9 ∷ 58 ∷ d 6 ∷ d 0 ∷ 59 ∷ 32 ∷ []
 
--- `voo:oo`
-abbrev pub at : ℕ → ℕ → ℕ → ℕ → ℕ → List ℕ
-at sign a b m n = sign ∷ d a ∷ d b ∷ colon ∷ d m ∷ d n ∷ []
+-- `+oo:oo` and `-oo:oo`
+abbrev pub ahead : ℕ → ℕ → ℕ → ℕ → List ℕ
+ahead a b m n = 43 ∷ d a ∷ d b ∷ 58 ∷ d m ∷ d n ∷ []
 
--- the string of a date and time, an offset and a mark of a leap second, with no flags and a position of spaces
-pub string : List ℕ → List ℕ → ℕ → List ℕ
-string time offset mark =
-    (stx ∷ time) ++ offset ++ (semicolon ∷ space ∷ replicate 6 space) ++ (mark ∷ semicolon ∷ space ∷ []) ++ replicate positionSize space ++ (etx ∷ [])
+abbrev behind : ℕ → ℕ → ℕ → ℕ → List ℕ
+behind a b m n = 45 ∷ d a ∷ d b ∷ 58 ∷ d m ∷ d n ∷ []
 
--- an hour ahead of UTC
-abbrev pub hourAhead : ℤ
-hourAhead = pos (60 / unit)
+-- `acdfg i`
+abbrev letters : ℕ → ℕ → ℕ → ℕ → ℕ → ℕ → List ℕ
+letters a c s f g i = a ∷ c ∷ s ∷ f ∷ g ∷ 32 ∷ i ∷ []
 
--- 2024-02-29 12:34:56 at an offset, with no flags and of quality 0
-unfoldable pub reading : ℤ → Reading
-reading z = record {
+abbrev pub none : List ℕ
+none = letters 32 32 32 32 32 32
+
+-- and with `L` alone
+abbrev leapMark : List ℕ
+leapMark = letters 32 32 32 32 32 76
+
+-- the string of a date and time, an offset and letters, with a position of spaces
+pub string : List ℕ → List ℕ → List ℕ → List ℕ
+string time offset flags = (2 ∷ time) ++ offset ++ (59 ∷ 32 ∷ flags) ++ (59 ∷ 32 ∷ []) ++ replicate 26 32 ++ (3 ∷ [])
+
+-- 2024-02-29 12:34:56 at an offset, with a summer flag, a leap second or a change announced, and a quality
+abbrev flagged : ℤ → Bool → Bool → Bool → ℕ → Reading
+flagged offset summer leap change quality = record {
   year = 2024;
   month = 2;
   day = 29;
   hour = 12;
   minute = 34;
   second = 56;
-  offset = record { 0 = z };
+  offset = record { 0 = offset };
+  summer = summer;
+  leap = leap;
+  change = change;
+  quality = quality;
+}
+
+-- with no flags and of quality 0
+unfoldable pub reading : ℤ → Reading
+reading offset = flagged offset false false false 0
+
+-- UTC 2016-12-31 23:59:60
+abbrev atLeapSecond : Reading
+atLeapSecond = record {
+  year = 2016;
+  month = 12;
+  day = 31;
+  hour = 23;
+  minute = 59;
+  second = 60;
+  offset = record { 0 = pos 0 };
   summer = false;
   leap = false;
   change = false;
   quality = 0;
 }
 
-pub worked-bytes : bytesOf (reading hourAhead) false (replicate positionSize space) ≡ string usual (at plus 0 1 0 0) space
+-- an hour ahead of UTC
+abbrev pub hourAhead : ℤ
+hourAhead = pos 2
+
+-- a refusal of this code whose place is 0
+abbrev refused : ℕ → Answer
+refused code = No (record { code = code; place = 0 })
+
+pub worked-bytes : bytesOf (reading hourAhead) false (replicate 26 32) ≡ string usual (ahead 0 1 0 0) none
 unfolding reading string bytesOf dateBytes timeBytes offsetBytes flagBytes isBehind minutesOf west east tens ones weekdayOf dayNumber dayOfYear daysBeforeYear daysBefore daysIn yearLength leapYear
 worked-bytes = refl
 
-pub worked-carried : writeFault base (reading hourAhead) (replicate positionSize space) size ≡ Good
+pub worked-carried : writeFault base (reading hourAhead) (replicate 26 32) size ≡ Good
 unfolding reading writeFault lengthBad carriedOf notCarried printables printable checkedOf timeBad dateBad inHundred isDate isMonth isDay lastDay daysIn leapYear offsetGood west east sixtyBad
 worked-carried = refl
 
--- strings that are accepted: `+14:00`, `-12:00`, `+00:00`, and a leap second with its mark
-abbrev good : List (List ℕ)
-good =
-    string usual (at plus 1 4 0 0) space ∷ string usual (at minus 1 2 0 0) space ∷ string usual (at plus 0 0 0 0) space
-    ∷ string sixty (at plus 0 0 0 0) letterL ∷ []
+-- `+14:00`, `-12:00`, and a leap second with its mark
+abbrev accepted : List (List ℕ)
+accepted =
+    string usual (ahead 1 4 0 0) none ∷ string usual (behind 1 2 0 0) none ∷ string sixty (ahead 0 0 0 0) leapMark ∷ []
+
+-- `#`, `*`, `S`, `!` and `A`, each alone
+abbrev lettered : List (List ℕ)
+lettered =
+    string usual (ahead 0 1 0 0) (letters 35 32 32 32 32 32) ∷ string usual (ahead 0 1 0 0) (letters 32 42 32 32 32 32)
+    ∷ string usual (ahead 0 2 0 0) (letters 32 32 83 32 32 32) ∷ string usual (ahead 0 1 0 0) (letters 32 32 32 33 32 32)
+    ∷ string usual (ahead 0 1 0 0) (letters 32 32 32 32 65 32) ∷ []
+
+-- weekdays 0 and 8, and month 13 with `+00:10`, which is no offset
+abbrev out-of-range : List (List ℕ)
+out-of-range =
+    string (on 0 2 0) (ahead 0 1 0 0) none ∷ string (on 0 2 8) (ahead 0 1 0 0) none ∷ string (on 1 3 4) (ahead 0 0 1 0) none ∷ []
 
 -- strings that say no offset: `+14:30`, `-12:30`, `-00:00`, `+00:60`, `+99:99`, `+01:01`
 abbrev offset-wrong : List (List ℕ)
 offset-wrong =
-    string usual (at plus 1 4 3 0) space ∷ string usual (at minus 1 2 3 0) space ∷ string usual (at minus 0 0 0 0) space
-    ∷ string usual (at plus 0 0 6 0) space ∷ string usual (at plus 9 9 9 9) space ∷ string usual (at plus 0 1 0 1) space ∷ []
+    string usual (ahead 1 4 3 0) none ∷ string usual (behind 1 2 3 0) none ∷ string usual (behind 0 0 0 0) none
+    ∷ string usual (ahead 0 0 6 0) none ∷ string usual (ahead 9 9 9 9) none ∷ string usual (ahead 0 1 0 1) none ∷ []
 
 -- a leap second without its mark, a mark without its leap second, and a leap second an hour too late
 abbrev leap-wrong : List (List ℕ)
-leap-wrong = string sixty (at plus 0 0 0 0) space ∷ string usual (at plus 0 0 0 0) letterL ∷ string sixty (at plus 0 1 0 0) letterL ∷ []
+leap-wrong = string sixty (ahead 0 0 0 0) none ∷ string usual (ahead 0 0 0 0) leapMark ∷ string sixty (ahead 0 1 0 0) leapMark ∷ []
 
 pub worked-read :
-    (readErlangen base (string usual (at plus 0 1 0 0) space) ≡ Time (reading hourAhead) false)
-    × (readErlangen base (string usual (at plus 0 0 0 0) space) ≡ Time (reading (pos 0)) false)
-    × (map (faultIn base) good ≡ replicate 4 Good)
-    × (map (faultIn base) offset-wrong ≡ replicate 6 (Bad (Offset 24)))
-    × (map (faultIn base) leap-wrong ≡ replicate 3 (Bad (LeapSecond 20)))
-unfolding reading string readErlangen faultIn readingOf coastingSaid weekdaySaid offsetWrong markWrong shows layout goodPlaces allowed within beside exactly from either packed digit pair yearOf offsetOf offsetBad wholeUnits unitsOf tooFar signed faultOf dayBad monthBad weekdayBad weekdayWrong sixtyBad leapMinute closesWithLeap utcOf utcMinutes onDay west east isMonth isDay lastDay weekdayOf dayNumber dayOfYear daysBeforeYear daysBefore daysIn yearLength leapYear
-worked-read = (refl, refl, refl, refl, refl)
-
--- the codes of the two faults
-pub worked-codes : (number (Offset 24) .code ≡ 8) × (number (LeapSecond 20) .code ≡ 9)
-unfolding number
-worked-codes = (refl, refl)
+    (readErlangen base (string usual (ahead 0 1 0 0) none) ≡ Time (reading hourAhead) false)
+    × (readErlangen base (string usual (ahead 0 0 0 0) none) ≡ Time (reading (pos 0)) false)
+    × (map (readErlangen base) accepted
+    ≡ Time (reading (pos 28)) false ∷ Time (reading (negsuc 23)) false ∷ Time atLeapSecond false ∷ [])
+    × (map (readErlangen base) lettered
+    ≡ Time (flagged (pos 2) false false false 15) false ∷ Time (flagged (pos 2) false false false 0) true ∷ Time (flagged (pos 4) true false false 0) false
+    ∷ Time (flagged (pos 2) false false true 0) false ∷ Time (flagged (pos 2) false true false 0) false ∷ [])
+    × (readErlangen base (string usual (ahead 0 1 0 0) (letters 37 32 32 32 32 32)) ≡ No (record { code = 2; place = 32 }))
+    × (map (readErlangen base) out-of-range ≡ replicate 3 (refused 5))
+    × (readErlangen base (string (on 0 2 3) (behind 0 0 0 0) none) ≡ refused 6)
+    × (map (readErlangen base) offset-wrong ≡ replicate 6 (refused 8))
+    × (map (readErlangen base) leap-wrong ≡ replicate 3 (refused 9))
+unfolding reading string readErlangen faultIn readingOf coastingSaid weekdaySaid offsetWrong markWrong shows layout goodPlaces allowed within beside exactly from either packed digit pair yearOf offsetOf offsetBad wholeUnits unitsOf tooFar signed faultOf dayBad monthBad weekdayBad weekdayWrong sixtyBad leapMinute closesWithLeap utcOf utcMinutes onDay west east isMonth isDay lastDay weekdayOf dayNumber dayOfYear daysBeforeYear daysBefore daysIn yearLength leapYear number
+worked-read = (refl, refl, refl, refl, refl, refl, refl, refl, refl)

@@ -5,7 +5,7 @@ ghost use Rattle.wire.specs.Layout.{goodPlaces};
 ghost use Rattle.erlangen.specs.Layout.{layout};
 
 // How many bytes from the start are allowed where they stand.
-pub fn good_places(s: &[u8]) -> usize
+pub(crate) fn good_places(s: &[u8]) -> usize
     ensures { λ r. ⌜ r ≡ goodPlaces layout (now (s .entry)) ⌝ }
 {
     layout::good_places(&LAYOUT, s)

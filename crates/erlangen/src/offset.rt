@@ -28,7 +28,7 @@ fn too_far(behind: bool, units: u16) -> bool
     EASTMOST < units
 }
 
-pub fn offset_bad(behind: bool, hours: u8, minutes: u8) -> bool
+pub(crate) fn offset_bad(behind: bool, hours: u8, minutes: u8) -> bool
     ensures { λ r. ⌜ r ≡ offsetBad behind hours minutes ⌝ }
 {
     let units = units_of(hours, minutes);
@@ -46,7 +46,7 @@ fn signed(behind: bool, units: u16) -> LocalMinusUtc
     LocalMinusUtc(size)
 }
 
-pub fn offset_of(behind: bool, hours: u8, minutes: u8) -> LocalMinusUtc
+pub(crate) fn offset_of(behind: bool, hours: u8, minutes: u8) -> LocalMinusUtc
     ensures { λ r. ⌜ r ≡ record { 0 = offsetOf behind hours minutes } ⌝ }
 {
     if offset_bad(behind, hours, minutes) {
@@ -55,13 +55,13 @@ pub fn offset_of(behind: bool, hours: u8, minutes: u8) -> LocalMinusUtc
     signed(behind, units_of(hours, minutes))
 }
 
-pub fn is_behind(offset: LocalMinusUtc) -> bool
+pub(crate) fn is_behind(offset: LocalMinusUtc) -> bool
     ensures { λ r. ⌜ r ≡ isBehind (offset .0) ⌝ }
 {
     0 < offset.west()
 }
 
-pub fn minutes_of(offset: LocalMinusUtc) -> u16
+pub(crate) fn minutes_of(offset: LocalMinusUtc) -> u16
     ensures { λ r. ⌜ r ≡ minutesOf (offset .0) ⌝ }
     ensures { λ r. ⌜ r < 7680 ⌝ }
 {

@@ -1,9 +1,10 @@
--- Cases 2 and 5 of the paper, computed from the definitions.
-use mathlib.Core.Bool.{true, false}
+-- Cases 2 and 5 of the paper, what each letter says, and which of several faults is told: literal bytes and literal answers,
+-- computed from the definitions.
+use mathlib.Core.Bool.{Bool, true, false}
 use mathlib.Core.List.{List, [], _∷_, map}
 use mathlib.Core.Path.{_≡_, refl}
 use Prim.Native.Nat.{ℕ}
-use lib.IntN.{pos}
+use lib.IntN.{ℤ, pos}
 use Rattle.calendar.specs.Calendar.{leapYear, daysIn, daysBefore, yearLength, daysBeforeYear, dayOfYear, dayNumber, weekdayOf, isMonth, lastDay, isDay, isDate}
 use Rattle.reading.specs.declared.Reading.{Reading}
 use Rattle.reading.specs.declared.Stamp.the-variants.{At}
@@ -16,6 +17,7 @@ use Rattle.reading.specs.Checks.{timeBad, dateBad, checkedOf}
 use Rattle.reading.specs.Stamps.{hasStamp, stampNumber, stampAt, stampOf}
 use Rattle.wire.specs.Digits.{digit, pair}
 use Rattle.wire.specs.Layout.{packed, exactly, from, either, oneOf, within, beside, allowed, goodPlaces}
+use Rattle.strings.specs.declared.Answer.{Answer}
 use Rattle.strings.specs.declared.Answer.the-variants.{Time, No}
 use Rattle.strings.specs.Checks.{dayBad, monthBad, weekdayBad, weekdayWrong, faultOf}
 use Rattle.meinberg.specs.Layout.{layout}
@@ -33,16 +35,20 @@ leapSecond =
     ∷ 3
     ∷ []
 
--- `D:29.02.24;T:4;U:12.34.56;    `
-abbrev pub leapDay : List ℕ
-leapDay =
+-- `D:29.02.24;T:w;U:12.34.56;uvxy`
+abbrev string : ℕ → ℕ → ℕ → ℕ → ℕ → List ℕ
+string w u v x y =
     2
     ∷ 68 ∷ 58 ∷ 50 ∷ 57 ∷ 46 ∷ 48 ∷ 50 ∷ 46 ∷ 50 ∷ 52 ∷ 59
-    ∷ 84 ∷ 58 ∷ 52 ∷ 59
+    ∷ 84 ∷ 58 ∷ w ∷ 59
     ∷ 85 ∷ 58 ∷ 49 ∷ 50 ∷ 46 ∷ 51 ∷ 52 ∷ 46 ∷ 53 ∷ 54 ∷ 59
-    ∷ 32 ∷ 32 ∷ 32 ∷ 32
+    ∷ u ∷ v ∷ x ∷ y
     ∷ 3
     ∷ []
+
+-- `D:29.02.24;T:4;U:12.34.56;    `
+abbrev pub leapDay : List ℕ
+leapDay = string 52 32 32 32 32
 
 -- `D:29.02.23;T:3;U:12.34.56;    `
 abbrev pub noSuchDay : List ℕ
@@ -72,9 +78,9 @@ atLeapSecond =
       quality = 0;
     }
 
--- 2024-02-29 12:34:56 in the zone of the space
-abbrev pub onLeapDay : Reading
-onLeapDay =
+-- 2024-02-29 12:34:56 at an offset, with a summer flag, a leap second or a change announced, and a quality
+abbrev onLeapDay : ℤ → Bool → Bool → Bool → ℕ → Reading
+onLeapDay offset summer leap change quality =
     record {
       year = 2024;
       month = 2;
@@ -82,23 +88,45 @@ onLeapDay =
       hour = 12;
       minute = 34;
       second = 56;
-      offset = record { 0 = offsetOf 32 };
-      summer = false;
-      leap = false;
-      change = false;
-      quality = 0;
+      offset = record { 0 = offset };
+      summer = summer;
+      leap = leap;
+      change = change;
+      quality = quality;
     }
+
+-- a refusal of this code whose place is 0
+abbrev refused : ℕ → Answer
+refused code = No (record { code = code; place = 0 })
 
 -- case 2; case 5: "29.02.24 is weekday 4. 29.02.23: code 5."
 pub worked :
     map (readMeinberg base) (leapSecond ∷ leapDay ∷ noSuchDay ∷ [])
-    ≡ Time atLeapSecond false ∷ Time onLeapDay false ∷ No (record { code = 5; place = 0 }) ∷ []
+    ≡ Time atLeapSecond false ∷ Time (onLeapDay (pos 2) false false false 0) false ∷ No (record { code = 5; place = 0 }) ∷ []
 unfolding readMeinberg faultIn meaning coastingIn qualityOf offsetOf summerOf
     layout packed exactly from either oneOf within beside allowed goodPlaces digit pair
     faultOf dayBad monthBad weekdayBad weekdayWrong number yearOf
     leapYear daysIn daysBefore yearLength daysBeforeYear dayOfYear dayNumber weekdayOf isMonth lastDay isDay isDate
     closesWithLeap leapMinute sixtyBad west east utcMinutes onDay utcOf
 worked = refl
+
+-- "x is `U` (offset 0), space (offset +2 half hours) or `S` (+4, summer)", "u is `#` (quality 15) or space (0)", "v is `*`
+-- (coasting) or space", "y is `!`, `A` or space"; "Weekday 0, 8 or 9 is code 5", another than the date's is 6, and `%` is no u
+pub worked-letters :
+    (map (readMeinberg base) (
+    string 52 32 32 85 32 ∷ string 52 32 32 32 32 ∷ string 52 32 32 83 32
+    ∷ string 52 35 32 32 32 ∷ string 52 32 42 32 32 ∷ string 52 32 32 32 33 ∷ string 52 32 32 32 65 ∷ [])
+    ≡ Time (onLeapDay (pos 0) false false false 0) false ∷ Time (onLeapDay (pos 2) false false false 0) false ∷ Time (onLeapDay (pos 4) true false false 0) false
+    ∷ Time (onLeapDay (pos 2) false false false 15) false ∷ Time (onLeapDay (pos 2) false false false 0) true
+    ∷ Time (onLeapDay (pos 2) false false true 0) false ∷ Time (onLeapDay (pos 2) false true false 0) false ∷ [])
+    × (map (readMeinberg base) (string 48 32 32 32 32 ∷ string 56 32 32 32 32 ∷ string 57 32 32 32 32 ∷ string 51 32 32 32 32 ∷ string 52 37 32 32 32 ∷ [])
+    ≡ refused 5 ∷ refused 5 ∷ refused 5 ∷ refused 6 ∷ No (record { code = 2; place = 27 }) ∷ [])
+unfolding readMeinberg faultIn meaning coastingIn qualityOf offsetOf summerOf
+    layout packed exactly from either oneOf within beside allowed goodPlaces digit pair
+    faultOf dayBad monthBad weekdayBad weekdayWrong number yearOf
+    leapYear daysIn daysBefore yearLength daysBeforeYear dayOfYear dayNumber weekdayOf isMonth lastDay isDay isDate
+    closesWithLeap leapMinute sixtyBad west east utcMinutes onDay utcOf
+worked-letters = (refl, refl)
 
 -- "stamp 536550209"
 pub worked-stamp : stampOf base atLeapSecond ≡ At 536550209

@@ -1,16 +1,15 @@
 -- The three zones and their letters name each other. None of these laws knows a zone's offset: where one matters it is computed.
 use mathlib.Core.Bool.{Bool, true, false, cond, Bool·beq, _||_}
 use mathlib.Core.Logic.{_⊎_, inl, inr}
-use mathlib.Core.Path.{_≡_, refl, sym, ap}
+use mathlib.Core.Path.{_≡_, refl, sym}
 use Prim.Native.Nat.{ℕ}
 use lib.Dec.{eqb}
-use lib.IntN.{ℤ, pos, negsuc}
-use borrow.Author.Tests.{eqb-true}
+use lib.IntN.{ℤ}
 use Rattle.laws.proofs.Bools.{both, holds, same-bool}
+use Rattle.laws.proofs.Signed.{same, same-is}
 use Rattle.reading.specs.Offset.{west, east, offsetGood}
-use Rattle.reading.proofs.CheckLaws.{clash}
 use Rattle.meinberg.specs.Layout.{space, letterS, letterU}
-use Rattle.meinberg.specs.Zones.{offsetOf, summerOf, sameOffset, isZone, zoneCarried, zoneLetter}
+use Rattle.meinberg.specs.Zones.{offsetOf, summerOf, isZone, zoneCarried, zoneLetter}
 
 -- "x is `U`, space or `S`"
 abbrev pub ZoneByte : ℕ → Type 0
@@ -18,24 +17,11 @@ ZoneByte x = (x ≡ letterU) ⊎ ((x ≡ space) ⊎ (x ≡ letterS))
 
 -- ---- what a zone is
 
-west-east : (z w : ℤ) → west z ≡ west w → east z ≡ east w → z ≡ w
-unfolding west east
-west-east (pos a) (pos b) p q = ap pos q
-west-east (pos a) (negsuc b) p q = let z : _≡_ {A = ℕ} 0 1 = cc in clash z
-west-east (negsuc a) (pos b) p q = let z : _≡_ {A = ℕ} 0 1 = cc in clash z
-west-east (negsuc a) (negsuc b) p q = cc
-
-same-offset-is : (z w : ℤ) → sameOffset z w ≡ true → z ≡ w
-unfolding sameOffset
-same-offset-is z w e =
-    let p = both (eqb (west z) (west w)) (eqb (east z) (east w)) e in
-    west-east z w (eqb-true (west z) (west w) (p .0)) (eqb-true (east z) (east w) (p .1))
-
 zone-is : (x : ℕ) (z : ℤ) (summer : Bool) → isZone x z summer ≡ true → (offsetOf x ≡ z) × (summerOf x ≡ summer)
 unfolding isZone
 zone-is x z summer e =
-    let p = both (sameOffset z (offsetOf x)) (Bool·beq summer (summerOf x)) e in
-    (sym (same-offset-is z (offsetOf x) (p .0)), sym (same-bool summer (summerOf x) (holds (Bool·beq summer (summerOf x)) (p .1))))
+    let p = both (same z (offsetOf x)) (Bool·beq summer (summerOf x)) e in
+    (sym (same-is z (offsetOf x) (holds (same z (offsetOf x)) (p .0))), sym (same-bool summer (summerOf x) (holds (Bool·beq summer (summerOf x)) (p .1))))
 
 -- ---- from a zone to its letter and back
 
@@ -66,13 +52,13 @@ letter-is z summer = go (isZone letterU z summer) (isZone letterS z summer)
 -- ---- from a letter to its zone and back
 
 pub letter-back : (x : ℕ) → ZoneByte x → zoneLetter (offsetOf x) (summerOf x) ≡ x
-unfolding zoneLetter isZone sameOffset offsetOf summerOf west east
+unfolding zoneLetter isZone offsetOf summerOf
 letter-back x (inl e) = rw e
 letter-back x (inr (inl e)) = rw e
 letter-back x (inr (inr e)) = rw e
 
 pub letter-carried : (x : ℕ) → ZoneByte x → zoneCarried (offsetOf x) (summerOf x) ≡ true
-unfolding zoneCarried isZone sameOffset offsetOf summerOf west east
+unfolding zoneCarried isZone offsetOf summerOf
 letter-carried x (inl e) = rw e
 letter-carried x (inr (inl e)) = rw e
 letter-carried x (inr (inr e)) = rw e

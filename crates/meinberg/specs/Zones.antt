@@ -3,7 +3,7 @@ use mathlib.Core.Bool.{Bool, cond, Bool·beq, _&&_, _||_}
 use Prim.Native.Nat.{ℕ}
 use lib.Dec.{eqb}
 use lib.IntN.{ℤ, pos}
-use Rattle.reading.specs.Offset.{west, east}
+use Rattle.laws.proofs.Signed.{same}
 use Rattle.meinberg.specs.Layout.{space, letterS, letterU}
 
 -- "x is `U` (offset 0), space (offset +2 half hours) or `S` (+4, summer)": the offset
@@ -14,13 +14,9 @@ offsetOf x = cond (eqb x letterU) (pos 0) (cond (eqb x letterS) (pos 4) (pos 2))
 unfoldable pub summerOf : ℕ → Bool
 summerOf x = eqb x letterS
 
--- two offsets are the same: as far west of UTC and as far east of it
-unfoldable pub sameOffset : ℤ → ℤ → Bool
-sameOffset z w = eqb (west z) (west w) && eqb (east z) (east w)
-
 -- an offset and a summer flag are those of the letter x
 unfoldable pub isZone : ℕ → ℤ → Bool → Bool
-isZone x offset summer = sameOffset offset (offsetOf x) && Bool·beq summer (summerOf x)
+isZone x offset summer = same offset (offsetOf x) && Bool·beq summer (summerOf x)
 
 -- they are those of one of the three letters
 unfoldable pub zoneCarried : ℤ → Bool → Bool

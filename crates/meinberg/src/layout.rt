@@ -5,30 +5,28 @@ ghost use mathlib.Core.Path.{_≡_};
 ghost use Rattle.wire.specs.Layout.{goodPlaces};
 ghost use Rattle.meinberg.specs.Layout.{layout, places};
 
-pub const LENGTH: usize = 32;
-
 // The first place of each field.
-pub const DAY: usize = 3;
+pub(crate) const DAY: usize = 3;
 
-pub const MONTH: usize = 6;
+pub(crate) const MONTH: usize = 6;
 
-pub const YEAR: usize = 9;
+pub(crate) const YEAR: usize = 9;
 
-pub const WEEKDAY: usize = 14;
+pub(crate) const WEEKDAY: usize = 14;
 
-pub const HOUR: usize = 18;
+pub(crate) const HOUR: usize = 18;
 
-pub const MINUTE: usize = 21;
+pub(crate) const MINUTE: usize = 21;
 
-pub const SECOND: usize = 24;
+pub(crate) const SECOND: usize = 24;
 
-pub const FAILURE: usize = 27;
+pub(crate) const FAILURE: usize = 27;
 
-pub const COASTING: usize = 28;
+pub(crate) const COASTING: usize = 28;
 
-pub const ZONE: usize = 29;
+pub(crate) const ZONE: usize = 29;
 
-pub const ANNOUNCEMENT: usize = 30;
+pub(crate) const ANNOUNCEMENT: usize = 30;
 
 // The four bytes of an entry: both ends of a range, and two bytes that are allowed beside it.
 const LOW: u32 = 1;
@@ -88,14 +86,14 @@ const LAYOUT: [u32; 32] = [
 ];
 
 // How many bytes from the start are allowed where they stand.
-pub fn allowed_places(s: &[u8]) -> usize
+pub(crate) fn allowed_places(s: &[u8]) -> usize
     ensures { λ r. ⌜ r ≡ goodPlaces layout (now (s .entry)) ⌝ }
 {
     good_places(&LAYOUT, s)
 }
 
 // Where the fields stand whose faults have a place.
-pub fn field_places() -> Places
+pub(crate) fn field_places() -> Places
     ensures { λ p. ⌜ p ≡ places ⌝ }
 {
     Places {

@@ -20,10 +20,10 @@ mod zones;
 pub struct Meinberg {}
 
 impl Meinberg {
-    pub const LENGTH: usize = layout::LENGTH;
+    pub const LENGTH: usize = 32;
 
     // The largest place.
-    pub const LAST: usize = layout::LENGTH - 1;
+    pub const LAST: usize = 31;
 
     // The time that a string says, with its coasting mark, or why it says none.
     pub fn read(s: &[u8]) -> Answer

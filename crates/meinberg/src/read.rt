@@ -1,6 +1,6 @@
 // Reading a Meinberg string: what it says, field by field, and its first fault.
+use super::Meinberg;
 use super::layout;
-use super::layout::LENGTH;
 use super::layout::allowed_places;
 use super::layout::field_places;
 use super::zones::offset_of;
@@ -57,14 +57,14 @@ fn meaning(s: &[u8]) -> Reading
 }
 
 // The form comes first, so that a string of another form costs no more than finding that out.
-pub fn answer_to(s: &[u8]) -> Answer
+pub(crate) fn answer_to(s: &[u8]) -> Answer
     ensures { λ a. ⌜ a ≡ readMeinberg base (now (s .entry)) ⌝ }
 {
-    if s.len() != LENGTH {
+    if s.len() != Meinberg::LENGTH {
         return Answer::No(refusal_of(Fault::Length));
     }
     let allowed = allowed_places(s);
-    if allowed < LENGTH {
+    if allowed <= Meinberg::LAST {
         return Answer::No(refusal_of(Fault::Byte(allowed)));
     }
     let r = meaning(s);

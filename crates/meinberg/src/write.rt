@@ -1,5 +1,5 @@
 // Writing a Meinberg string: the reasons not to, and its bytes.
-use super::layout::LENGTH;
+use super::Meinberg;
 use super::zones::zone_carried;
 use super::zones::zone_letter;
 use calendar::Date;
@@ -34,7 +34,7 @@ fn not_carried(r: Reading) -> bool
 fn write_fault(r: Reading, room: usize) -> Verdict
     ensures { λ v. ⌜ v ≡ writeFault base r room ⌝ }
 {
-    if room < LENGTH {
+    if room < Meinberg::LENGTH {
         return Verdict::Bad(Fault::Length);
     }
     if let Verdict::Bad(fault) = checked(r) {
@@ -114,7 +114,7 @@ fn bytes_of(r: Reading, coasting: bool) -> [u8; 32]
 }
 
 // Every refusal is decided before the first store.
-pub fn into(r: Reading, coasting: bool, out: &mut [u8]) -> Written
+pub(crate) fn into(r: Reading, coasting: bool, out: &mut [u8]) -> Written
     ensures { λ w. ⌜ w ≡ writtenOf (writeFault base r (length (now (out .entry)))) textLength ⌝ }
     ensures { λ w. ⌜ now (out .exit) ≡ filled (writeFault base r (length (now (out .entry)))) (bytesOf r coasting) (now (out .entry)) ⌝ }
 {
@@ -123,5 +123,5 @@ pub fn into(r: Reading, coasting: bool, out: &mut [u8]) -> Written
     }
     let text = bytes_of(r, coasting);
     put_at(out, 0, &text);
-    Written::Length(LENGTH)
+    Written::Length(Meinberg::LENGTH)
 }

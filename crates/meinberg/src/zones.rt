@@ -1,9 +1,10 @@
 // The zones of a Meinberg string: the one place where their offsets stand.
 use reading::LocalMinusUtc;
 ghost use mathlib.Core.Path.{_≡_};
-ghost use Rattle.meinberg.specs.Zones.{offsetOf, summerOf, sameOffset, isZone, zoneCarried, zoneLetter};
+ghost use Rattle.laws.proofs.Signed.{same};
+ghost use Rattle.meinberg.specs.Zones.{offsetOf, summerOf, isZone, zoneCarried, zoneLetter};
 
-pub fn offset_of(letter: u8) -> LocalMinusUtc
+pub(crate) fn offset_of(letter: u8) -> LocalMinusUtc
     ensures { λ o. ⌜ o ≡ record { 0 = offsetOf letter } ⌝ }
 {
     if letter == b'U' {
@@ -15,14 +16,14 @@ pub fn offset_of(letter: u8) -> LocalMinusUtc
     LocalMinusUtc(2)
 }
 
-pub fn summer_of(letter: u8) -> bool
+pub(crate) fn summer_of(letter: u8) -> bool
     ensures { λ b. ⌜ b ≡ summerOf letter ⌝ }
 {
     letter == b'S'
 }
 
 fn same_offset(a: LocalMinusUtc, b: LocalMinusUtc) -> bool
-    ensures { λ r. ⌜ r ≡ sameOffset (a .0) (b .0) ⌝ }
+    ensures { λ r. ⌜ r ≡ same (a .0) (b .0) ⌝ }
 {
     (a.west() == b.west()) & (a.east() == b.east())
 }
@@ -33,13 +34,13 @@ fn is_zone(letter: u8, offset: LocalMinusUtc, summer: bool) -> bool
     same_offset(offset, offset_of(letter)) & (summer == summer_of(letter))
 }
 
-pub fn zone_carried(offset: LocalMinusUtc, summer: bool) -> bool
+pub(crate) fn zone_carried(offset: LocalMinusUtc, summer: bool) -> bool
     ensures { λ r. ⌜ r ≡ zoneCarried (offset .0) summer ⌝ }
 {
     is_zone(b'U', offset, summer) | is_zone(b'S', offset, summer) | is_zone(b' ', offset, summer)
 }
 
-pub fn zone_letter(offset: LocalMinusUtc, summer: bool) -> u8
+pub(crate) fn zone_letter(offset: LocalMinusUtc, summer: bool) -> u8
     ensures { λ r. ⌜ r ≡ zoneLetter (offset .0) summer ⌝ }
 {
     if is_zone(b'U', offset, summer) {

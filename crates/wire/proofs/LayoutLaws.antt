@@ -1,5 +1,5 @@
 -- What the number of good places tells of a text and its layout, and the number of printable bytes of a text.
-use mathlib.Core.Path.{_≡_, _∙_}
+use mathlib.Core.Path.{_≡_}
 use mathlib.Core.Bool.{Bool, true, false}
 use mathlib.Core.List.{List, [], _∷_}
 use Prim.Native.Nat.{ℕ, suc, _≤_, _<_, min}
@@ -35,12 +35,6 @@ good-within layout text = let w = good-leads layout text .within in (omega arith
 pub all-allowed : (layout text : List ℕ) → goodPlaces layout text ≡ length text → (i : ℕ) → i < length text → allowedAt layout text i ≡ true
 all-allowed layout text e i h = good-leads layout text .below i (omega arith)
 
-pub all-good : (layout text : List ℕ) → length layout ≡ length text
-    → ((i : ℕ) → i < length text → allowedAt layout text i ≡ true) → goodPlaces layout text ≡ length text
-all-good layout text e f =
-    let m : min (length layout) (length text) ≡ length text = omega arith in
-    all-pass (good-leads layout text) (λ i h. f i (omega arith)) ∙ m
-
 pub first-bad : (layout text : List ℕ) (k : ℕ) → goodPlaces layout text ≡ k → k < length layout → k < length text
     → (allowedAt layout text k ≡ false) × ((i : ℕ) → i < k → allowedAt layout text i ≡ true)
 first-bad layout text k e h l = found (good-leads layout text) k e (omega arith)
@@ -72,10 +66,6 @@ all-printable text e i h = printables-leads text .below i (omega arith)
 
 pub all-printables : (text : List ℕ) → ((i : ℕ) → i < length text → printableAt text i ≡ true) → printables text ≡ length text
 all-printables text f = all-pass (printables-leads text) f
-
-pub first-unprintable : (text : List ℕ) (k : ℕ) → printables text ≡ k → k < length text
-    → (printableAt text k ≡ false) × ((i : ℕ) → i < k → printableAt text i ≡ true)
-first-unprintable text k e h = found (printables-leads text) k e h
 
 pub first-unprintable-is : (text : List ℕ) (k : ℕ) → k < length text → printableAt text k ≡ false
     → ((i : ℕ) → i < k → printableAt text i ≡ true) → printables text ≡ k

@@ -52,11 +52,7 @@ stored-length at t l = go (decLe (at + length t) (length l))
     go (yes h) = rw (stored-is at t l h) (simp (length-append, length-take, length-drop) (omega arith))
     go (no m) = rw (stored-none at t l (omega arith))
 
--- before the place, at it and behind the text
-pub stored-before : (at : ℕ) (t l : List ℕ) → at + length t ≤ length l → take at (stored at t l) ≡ take at l
-stored-before at t l h =
-    rw (stored-is at t l h, append-assoc) (take-at (take at l) (t ++ drop (at + length t) l) at (length-take-le at l (omega arith)))
-
+-- up to the text's end, and behind it
 head-length : (at : ℕ) (t l : List ℕ) → at + length t ≤ length l → length (take at l ++ t) ≡ at + length t
 head-length at t l h = simp (length-append, length-take) (omega arith)
 

@@ -1,6 +1,8 @@
 -- `strings::fault_of` meets its contract. Assumes nothing.
 use borrow.Author.Needs.{needs}
-use Rattle.strings.specs.Checks.{faultOf}
+use mathlib.Core.Bool.{_||_}
+use mathlib.Core.Path.{_∙_}
+use Rattle.strings.specs.Checks.{timeFault, dateFault, restFault, faultOf}
 use Rattle.strings.proofs.fault_of.Statement.{statement}
 use Rattle.strings.proofs.fault_of.Tie as tie
 
@@ -40,19 +42,16 @@ time-fault-requires c κs = search needs
 returns : tie.Need-returns
 unfolding faultOf
 returns c =
-    rw (
-      c .time-fault .ensures,
-      c .before .second-bad .ensures,
-      c .before .before .minute-bad .ensures,
-      c .before .before .before .hour-bad .ensures,
-      c .before .before .before .before .date-fault .ensures,
-      c .before .before .before .before .before .weekday-bad .ensures,
-      c .before .before .before .before .before .before .month-bad .ensures,
-      c .before .before .before .before .before .before .before .day-bad .ensures,
-      c .before .before .before .before .before .before .before .before .rest-fault .ensures,
-      c .before .before .before .before .before .before .before .before .before .weekday-wrong .ensures,
-      c .before .before .before .before .before .before .before .before .before .before .leap-second-bad .ensures,
-    )
+    let date = c .before .before .before .before in
+    let rest = date .before .before .before .before in
+    let leap = rest .before .before in
+    let a = leap .before .args in
+    let rest-is = rest .rest-fault .ensures ∙ (λ i. restFault (rest .before .weekday-wrong .ensures i) (a .offset) (leap .leap-second-bad .ensures i || a .mark) (a .p)) in
+    let date-is =
+    date .date-fault .ensures
+    ∙ (λ i. dateFault (date .before .before .before .day-bad .ensures i) (date .before .before .month-bad .ensures i) (date .before .weekday-bad .ensures i) (a .p) (rest-is i)) in
+    c .time-fault .ensures
+    ∙ (λ i. timeFault (c .before .before .before .hour-bad .ensures i) (c .before .before .minute-bad .ensures i) (c .before .second-bad .ensures i) (a .p) (date-is i))
 
 pub fault-of-spec : {M : Type 1} → statement M
 fault-of-spec =

@@ -29,10 +29,12 @@ refusal-of-requires : tie.Need-refusal-of-requires
 refusal-of-requires c κs = search needs
 
 returns : tie.Need-returns
-returns c = timed (c .before .before .args .verdict) _ _ (cc)
+returns c = timed (c .before .before .args .verdict) _ _ (c .enum-told .given .1)
 
 returns-2 : tie.Need-returns-2
-returns-2 c = refused (c .before .before .before .before .args .verdict) _ _ (c .before .before .verdict .given .0 .0) _ (cc) (cc)
+returns-2 c =
+    let fault = c .before .before .verdict .given in
+    refused (c .before .before .before .before .args .verdict) _ _ (fault .0 .0) _ (fault .1) (c .refusal-of .ensures)
 
 pub told-spec : {M : Type 1} → statement M
 told-spec = tie.close (tie.spec enum-told enum-known-verdict refusal-of-requires returns returns-2)

@@ -1,6 +1,6 @@
 -- `erlangen::Erlangen::position_part` meets its contract: a time has no fault, and a refusal has one. Assumes nothing.
 use mathlib.Core.List.{List, []}
-use mathlib.Core.Path.{_≡_, refl}
+use mathlib.Core.Path.{_≡_, refl, sym, _∙_}
 use Prim.Native.Nat.{ℕ}
 use native.Mathlib.Omega.{arith}
 use lib.ListN.{length, take, drop}
@@ -38,8 +38,10 @@ part-result-start c = search needs
 
 part-result-end : tie.Need-part-result-end
 part-result-end c =
-    let s = now (c .before .before .before .before .args .s) in
-    let l : length s ≡ size = accepted-length base s (time-faultless base s (c .enum-told .given .0 .0) (c .enum-told .given .0 .1 .0) (cc)) in
+    let a = c .before .before in
+    let s = now (a .before .before .args .s) in
+    let t = c .enum-told .given in
+    let l : length s ≡ size = accepted-length base s (time-faultless base s (t .0 .0) (t .0 .1 .0) (sym (a .read .ensures) ∙ t .1)) in
     omega arith
 
 enum-told-2 : tie.Need-enum-told-2
@@ -56,15 +58,18 @@ part-result-end-2 c = search needs
 
 returns : tie.Need-returns
 returns c =
-    let s = now (c .before .before .before .before .before .args .s) in
-    let t = c .before .enum-told .given .0 in
-    let p = accepted s (time-faultless base s (t .0) (t .1 .0) (cc)) in
+    let a = c .before .before .before in
+    let s = now (a .before .before .args .s) in
+    let t = c .before .enum-told .given in
+    let p = accepted s (time-faultless base s (t .0 .0) (t .0 .1 .0) (sym (a .read .ensures) ∙ t .1)) in
     (p .0, rw (p .1))
 
 returns-2 : tie.Need-returns-2
 returns-2 c =
-    let s = now (c .before .before .before .before .before .args .s) in
-    let x = no-faulty base s (c .before .enum-told2 .given .0 .0) (cc) in
+    let a = c .before .before .before in
+    let s = now (a .before .before .args .s) in
+    let t = c .before .enum-told2 .given in
+    let x = no-faulty base s (t .0 .0) (sym (a .read .ensures) ∙ t .1) in
     let p = refused s (x .0) (x .1) in
     (p .0, rw (p .1))
 

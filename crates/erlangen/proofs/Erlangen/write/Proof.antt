@@ -1,7 +1,7 @@
 -- `erlangen::Erlangen::write` meets its contract. Assumes nothing.
 use mathlib.Core.Bool.{Bool}
 use mathlib.Core.List.{List, _++_}
-use mathlib.Core.Path.{_≡_, refl, _∙_}
+use mathlib.Core.Path.{_≡_, refl, sym, _∙_}
 use Prim.Native.Nat.{ℕ}
 use denote.Ref.{now}
 use lib.ListN.{length, drop}
@@ -50,16 +50,28 @@ enum-told : tie.Need-enum-told
 enum-told c = search needs
 
 lay-requires : tie.Need-lay-requires
-lay-requires c κs = let s = c .before .before .before .before .before .before .args in let p = carried-is base (s .r) (now (s .position)) (length (now (s .out))) (cc) in (p .size-is, p .roomy)
+lay-requires c κs =
+    let w = c .before .before .before in
+    let s = w .before .before .before .args in
+    let p = carried-is base (s .r) (now (s .position)) (length (now (s .out))) (sym (w .write-fault .ensures) ∙ c .before .enum-told .given .1) in
+    (p .size-is, p .roomy)
 
 returns : tie.Need-returns
-returns c = let s = c .before .before .before .before .before .before .before .args in refused (s .r) (s .coasting) (now (s .position)) (now (s .out)) (c .before .before .fault .given .0 .0) (cc) (cc)
+returns c =
+    let fault = c .before .before .fault in
+    let w = c .before .before .before .before in
+    let s = w .before .before .before .args in
+    refused (s .r) (s .coasting) (now (s .position)) (now (s .out)) (fault .given .0 .0) (sym (w .write-fault .ensures) ∙ fault .given .1) (c .refusal-of .ensures)
 
 same-length : tie.Need-same-length
 same-length c = search needs
 
 returns-2 : tie.Need-returns-2
-returns-2 c = let s = c .before .before .before .before .before .before .before .before .before .args in accepted (s .r) (s .coasting) (now (s .position)) (now (s .out)) (cc) (c .before .before .lay .ensures)
+returns-2 c =
+    let told = c .before .before .before .before in
+    let w = told .before .before in
+    let s = w .before .before .before .args in
+    accepted (s .r) (s .coasting) (now (s .position)) (now (s .out)) (sym (w .write-fault .ensures) ∙ told .enum-told .given .1) (c .before .before .lay .ensures)
 
 pub write-spec : {M : Type 1} → statement M
 write-spec =

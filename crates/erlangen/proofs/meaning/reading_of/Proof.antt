@@ -1,4 +1,8 @@
 -- `erlangen::meaning::reading_of` meets its contract. Assumes nothing.
+use mathlib.Core.Bool.{Bool, cond}
+use mathlib.Core.Path.{ap, _∙_}
+use Rattle.reading.specs.Years.{base, yearOf}
+use Rattle.erlangen.specs.Offset.{offsetOf}
 use Rattle.erlangen.specs.Meaning.{readingOf}
 use borrow.Author.Needs.{needs}
 use Rattle.erlangen.proofs.meaning.reading_of.Statement.{statement}
@@ -54,24 +58,28 @@ quality-of-requires c κs = search needs
 
 returns : tie.Need-returns
 unfolding readingOf
-returns c = rw (
-  c .quality-of .ensures,
-  c .before .shows5 .ensures,
-  c .before .before .shows4 .ensures,
-  c .before .before .before .shows3 .ensures,
-  c .before .before .before .before .shows2 .ensures,
-  c .before .before .before .before .before .two-digits8 .ensures .0,
-  c .before .before .before .before .before .before .two-digits7 .ensures .0,
-  c .before .before .before .before .before .before .before .two-digits6 .ensures .0,
-  c .before .before .before .before .before .before .before .before .two-digits5 .ensures .0,
-  c .before .before .before .before .before .before .before .before .before .two-digits4 .ensures .0,
-  c .before .before .before .before .before .before .before .before .before .before .year-of .ensures,
-  c .before .before .before .before .before .before .before .before .before .before .before .two-digits3 .ensures .0,
-  c .before .before .before .before .before .before .before .before .before .before .before .before .offset-of .ensures,
-  c .before .before .before .before .before .before .before .before .before .before .before .before .before .two-digits2 .ensures .0,
-  c .before .before .before .before .before .before .before .before .before .before .before .before .before .before .two-digits .ensures .0,
-  c .before .before .before .before .before .before .before .before .before .before .before .before .before .before .before .shows .ensures,
-)
+returns c =
+    let flags = c .before in
+    let digits = flags .before .before .before .before in
+    let offset = digits .before .before .before .before .before .before .before in
+    λ i. record {
+      year = (digits .before .before .before .before .before .year-of .ensures ∙ ap (yearOf base) (digits .before .before .before .before .before .before .two-digits3 .ensures .0)) i;
+      month = digits .before .before .before .before .two-digits4 .ensures .0 i;
+      day = digits .before .before .before .two-digits5 .ensures .0 i;
+      hour = digits .before .before .two-digits6 .ensures .0 i;
+      minute = digits .before .two-digits7 .ensures .0 i;
+      second = digits .two-digits8 .ensures .0 i;
+      offset =
+          (offset .offset-of .ensures
+          ∙ (λ j. record {
+            0 = offsetOf (offset .before .before .before .shows .ensures j) (offset .before .before .two-digits .ensures .0 j) (offset .before .two-digits2 .ensures .0 j);
+          }))
+          i;
+      summer = flags .before .before .before .shows2 .ensures i;
+      leap = flags .before .before .shows3 .ensures i;
+      change = flags .before .shows4 .ensures i;
+      quality = (c .quality-of .ensures ∙ ap (λ (failed : Bool). cond failed 15 0) (flags .shows5 .ensures)) i;
+    }
 
 pub reading-of-spec : {M : Type 1} → statement M
 reading-of-spec =

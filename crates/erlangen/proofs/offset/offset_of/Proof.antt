@@ -1,6 +1,6 @@
 -- `erlangen::offset::offset_of` meets its contract. Assumes nothing.
 use mathlib.Core.Bool.{Bool, true, false}
-use mathlib.Core.Path.{_≡_, _∙_}
+use mathlib.Core.Path.{_≡_, sym, _∙_}
 use Prim.Native.Nat.{ℕ, _<_}
 use native.Mathlib.Omega.{arith}
 use lib.IntN.{pos}
@@ -28,16 +28,25 @@ offset-bad-requires : tie.Need-offset-bad-requires
 offset-bad-requires c κs = search needs
 
 returns : tie.Need-returns
-returns c = no-offset (c .before .before .args .behind) (c .before .before .args .hours) (c .before .before .args .minutes) (cc)
+returns c =
+    let a = c .before .before .args in
+    no-offset (a .behind) (a .hours) (a .minutes) (sym (c .before .offset-bad .ensures) ∙ c .if1 .taken)
 
 units-of-requires : tie.Need-units-of-requires
 units-of-requires c κs = search needs
 
 signed-requires : tie.Need-signed-requires
-signed-requires c κs = units-small (c .before .before .before .args .behind) (c .before .before .before .args .hours) (c .before .before .before .args .minutes) _ (cc) (c .units-of .ensures)
+signed-requires c κs =
+    let b = c .before .before in
+    let a = b .before .args in
+    units-small (a .behind) (a .hours) (a .minutes) _ (sym (b .offset-bad .ensures) ∙ c .before .if1 .left) (c .units-of .ensures)
 
 returns-2 : tie.Need-returns-2
-returns-2 c = an-offset (c .before .before .before .before .args .behind) (c .before .before .before .before .args .hours) (c .before .before .before .before .args .minutes) _ _ (cc) (c .before .units-of .ensures) (c .signed .ensures)
+returns-2 c =
+    let u = c .before in
+    let b = u .before .before in
+    let a = b .before .args in
+    an-offset (a .behind) (a .hours) (a .minutes) _ _ (sym (b .offset-bad .ensures) ∙ u .before .if1 .left) (u .units-of .ensures) (c .signed .ensures)
 
 pub offset-of-spec : {M : Type 1} → statement M
 offset-of-spec =

@@ -1,6 +1,6 @@
 -- `erlangen::writing::carried` meets its contract. Assumes nothing.
 use mathlib.Core.Bool.{true, false}
-use mathlib.Core.Path.{_≡_}
+use mathlib.Core.Path.{_≡_, sym, _∙_}
 use Rattle.reading.specs.declared.Reading.{Reading}
 use Rattle.reading.specs.declared.Fault.{Fault}
 use Rattle.reading.specs.declared.Fault.the-variants.{NotCarried}
@@ -38,13 +38,22 @@ not-carried-requires : tie.Need-not-carried-requires
 not-carried-requires c κs = search needs
 
 returns : tie.Need-returns
-returns c = stopped _ (cc) (cc)
+returns c =
+    let n = c .before in
+    let k = n .before .before .before in
+    stopped (k .before .args .r) (sym (k .checked .ensures) ∙ n .before .enum-told .given .1) (sym (n .not-carried .ensures) ∙ c .if1 .taken)
 
 returns-2 : tie.Need-returns-2
-returns-2 c = refused _ (c .before .fault .given .0 .0) (cc)
+returns-2 c =
+    let fault = c .before .fault in
+    let k = c .before .before .before in
+    refused (k .before .args .r) (fault .given .0 .0) (sym (k .checked .ensures) ∙ fault .given .1)
 
 returns-3 : tie.Need-returns-3
-returns-3 c = through _ (cc) (cc)
+returns-3 c =
+    let n = c .before in
+    let k = n .before .before .before in
+    through (k .before .args .r) (sym (k .checked .ensures) ∙ n .before .enum-told .given .1) (sym (n .not-carried .ensures) ∙ c .if1 .left)
 
 pub carried-spec : {M : Type 1} → statement M
 carried-spec =

@@ -1,8 +1,9 @@
 -- `erlangen::writing::write_fault` meets its contract. Assumes nothing.
 use mathlib.Core.Bool.{true, false}
 use mathlib.Core.List.{List}
-use mathlib.Core.Path.{_≡_, _∙_}
+use mathlib.Core.Path.{_≡_, sym, _∙_}
 use Prim.Native.Nat.{ℕ, _≤_, _<_}
+use denote.Ref.{now}
 use borrow.Author.Tests.{lt-ltb, le-ltb}
 use Rattle.wire.specs.Layout.{printables}
 use Rattle.reading.specs.declared.Reading.{Reading}
@@ -34,19 +35,29 @@ length-bad-requires : tie.Need-length-bad-requires
 length-bad-requires c κs = search needs
 
 returns : tie.Need-returns
-returns c = wrong-length _ _ _ (cc)
+returns c =
+    let s = c .before .before .before .args in
+    wrong-length (s .r) (now (s .position)) (s .room) (sym (c .before .length-bad .ensures) ∙ c .if1 .taken)
 
 unprintable-at-requires : tie.Need-unprintable-at-requires
 unprintable-at-requires c κs = search needs
 
 returns-2 : tie.Need-returns-2
-returns-2 c = wrong-byte _ _ _ _ (cc) (c .before .unprintable-at .ensures) (c .if2 .taken)
+returns-2 c =
+    let u = c .before in
+    let b = u .before .before in
+    let s = b .before .before .args in
+    wrong-byte (s .r) (now (s .position)) (s .room) _ (sym (b .length-bad .ensures) ∙ u .before .if1 .left) (u .unprintable-at .ensures) (c .if2 .taken)
 
 carried-requires : tie.Need-carried-requires
 carried-requires c κs = search needs
 
 returns-3 : tie.Need-returns-3
-returns-3 c = rest _ _ _ _ (cc) (c .before .before .unprintable-at .ensures) (c .before .if2 .left) (c .carried .ensures)
+returns-3 c =
+    let u = c .before .before in
+    let b = u .before .before in
+    let s = b .before .before .args in
+    rest (s .r) (now (s .position)) (s .room) _ (sym (b .length-bad .ensures) ∙ u .before .if1 .left) (u .unprintable-at .ensures) (c .before .if2 .left) (c .carried .ensures)
 
 pub write-fault-spec : {M : Type 1} → statement M
 write-fault-spec =

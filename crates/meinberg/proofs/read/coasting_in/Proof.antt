@@ -9,7 +9,7 @@ byte-at-requires c κs = search needs
 
 returns : tie.Need-returns
 unfolding coastingIn
-returns c = cc
+returns c = rw (c .byte-at .ensures)
 
 pub coasting-in-spec : {M : Type 1} → statement M
 coasting-in-spec = tie.close (tie.spec byte-at-requires returns)

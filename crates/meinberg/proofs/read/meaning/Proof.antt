@@ -1,6 +1,11 @@
 -- `meinberg::read::meaning` meets its contract. Assumes nothing.
 use borrow.Author.Needs.{needs}
-use Rattle.meinberg.specs.Meaning.{meaning}
+use mathlib.Core.Path.{ap, _∙_}
+use lib.Dec.{eqb}
+use Rattle.reading.specs.Years.{base, yearOf}
+use Rattle.meinberg.specs.Layout.{bang, letterA}
+use Rattle.meinberg.specs.Zones.{offsetOf, summerOf}
+use Rattle.meinberg.specs.Meaning.{qualityOf, meaning}
 use Rattle.meinberg.proofs.read.meaning.Statement.{statement}
 use Rattle.meinberg.proofs.read.meaning.Tie as tie
 
@@ -48,21 +53,21 @@ unfolding meaning
 returns c =
     let digits = c .before .before .before in
     let bytes = digits .before .before .before .before .before .before .before in
-    rw (
-      c .quality-of .ensures,
-      c .before .byte-at3 .ensures,
-      c .before .before .summer-of .ensures,
-      digits .two-digits6 .ensures .0,
-      digits .before .two-digits5 .ensures .0,
-      digits .before .before .two-digits4 .ensures .0,
-      digits .before .before .before .two-digits3 .ensures .0,
-      digits .before .before .before .before .two-digits2 .ensures .0,
-      digits .before .before .before .before .before .year-of .ensures,
-      digits .before .before .before .before .before .before .two-digits .ensures .0,
-      bytes .offset-of .ensures,
-      bytes .before .byte-at2 .ensures,
-      bytes .before .before .byte-at .ensures,
-    )
+    let zone = bytes .before .before .byte-at .ensures in
+    let announced = bytes .before .byte-at2 .ensures in
+    λ i. record {
+      year = (digits .before .before .before .before .before .year-of .ensures ∙ ap (yearOf base) (digits .before .before .before .before .before .before .two-digits .ensures .0)) i;
+      month = digits .before .before .before .before .two-digits2 .ensures .0 i;
+      day = digits .before .before .before .two-digits3 .ensures .0 i;
+      hour = digits .before .before .two-digits4 .ensures .0 i;
+      minute = digits .before .two-digits5 .ensures .0 i;
+      second = digits .two-digits6 .ensures .0 i;
+      offset = (bytes .offset-of .ensures ∙ (λ j. record { 0 = offsetOf (zone j) })) i;
+      summer = (c .before .before .summer-of .ensures ∙ ap summerOf zone) i;
+      leap = eqb (announced i) letterA;
+      change = eqb (announced i) bang;
+      quality = (c .quality-of .ensures ∙ ap qualityOf (c .before .byte-at3 .ensures)) i;
+    }
 
 pub meaning-spec : {M : Type 1} → statement M
 meaning-spec =

@@ -1,5 +1,9 @@
 -- `meinberg::write::bytes_of` meets its contract. Assumes nothing.
 use borrow.Author.Needs.{needs}
+use mathlib.Core.List.{[], _∷_}
+use mathlib.Core.Path.{ap, _∙_}
+use Rattle.wire.specs.Digits.{tens, ones}
+use Rattle.meinberg.specs.Layout.{stx, etx, dot, colon, semicolon, letterD, letterT, letterU}
 use Rattle.meinberg.specs.Writing.{bytesOf}
 use Rattle.meinberg.proofs.write.bytes_of.Statement.{statement}
 use Rattle.meinberg.proofs.write.bytes_of.Tie as tie
@@ -65,26 +69,19 @@ returns c =
     let time = marks .before .before in
     let weekday = time .before .before .before .before .before .before in
     let date = weekday .before in
-    rw (
-      c .announcement .ensures,
-      c .before .zone-letter .ensures,
-      c .before .before .mark2 .ensures,
-      marks .mark .ensures,
-      time .ones6 .ensures,
-      time .before .tens6 .ensures,
-      time .before .before .ones5 .ensures,
-      time .before .before .before .tens5 .ensures,
-      time .before .before .before .before .ones4 .ensures,
-      time .before .before .before .before .before .tens4 .ensures,
-      weekday .weekday-digit .ensures,
-      date .ones3 .ensures,
-      date .before .tens3 .ensures,
-      date .before .before .ones2 .ensures,
-      date .before .before .before .tens2 .ensures,
-      date .before .before .before .before .ones .ensures,
-      date .before .before .before .before .before .tens .ensures,
-      date .before .before .before .before .before .before .before .year-digits .ensures,
-    )
+    let year = date .before .before .before .before .before .before .before .year-digits .ensures in
+    λ i.
+    stx
+    ∷ letterD ∷ colon ∷ date .before .before .before .before .before .tens .ensures i ∷ date .before .before .before .before .ones .ensures i
+    ∷ dot ∷ date .before .before .before .tens2 .ensures i ∷ date .before .before .ones2 .ensures i
+    ∷ dot ∷ (date .before .tens3 .ensures ∙ ap tens year) i ∷ (date .ones3 .ensures ∙ ap ones year) i ∷ semicolon
+    ∷ letterT ∷ colon ∷ weekday .weekday-digit .ensures i ∷ semicolon
+    ∷ letterU ∷ colon ∷ time .before .before .before .before .before .tens4 .ensures i ∷ time .before .before .before .before .ones4 .ensures i
+    ∷ dot ∷ time .before .before .before .tens5 .ensures i ∷ time .before .before .ones5 .ensures i
+    ∷ dot ∷ time .before .tens6 .ensures i ∷ time .ones6 .ensures i ∷ semicolon
+    ∷ marks .mark .ensures i ∷ c .before .before .mark2 .ensures i ∷ c .before .zone-letter .ensures i ∷ c .announcement .ensures i
+    ∷ etx
+    ∷ []
 
 pub bytes-of-spec : {M : Type 1} → statement M
 bytes-of-spec =

@@ -3,7 +3,7 @@ use borrow.Author.Needs.{needs}
 use native.Mathlib.Omega.{arith}
 use mathlib.Core.Bool.{Bool}
 use mathlib.Core.List.{List}
-use mathlib.Core.Path.{_≡_}
+use mathlib.Core.Path.{_≡_, sym, _∙_}
 use Prim.Native.Nat.{ℕ}
 use denote.Ref.{now}
 use lib.ListN.{length}
@@ -47,8 +47,10 @@ refusal-of-requires c κs = search needs
 
 returns : tie.Need-returns
 returns c =
-    let a = c .before .before .before .before .before .before .args in
-    refused (a .r) (a .coasting) (now (a .out)) (c .before .before .fault .given .0 .0) _ (cc) (cc)
+    let fault = c .before .before .fault in
+    let w = c .before .before .before .before in
+    let a = w .before .before .args in
+    refused (a .r) (a .coasting) (now (a .out)) (fault .given .0 .0) _ (sym (w .write-fault .ensures) ∙ fault .given .1) (c .refusal-of .ensures)
 
 enum-told : tie.Need-enum-told
 enum-told c = search needs
@@ -67,9 +69,12 @@ same-length c = search needs
 
 returns-2 : tie.Need-returns-2
 returns-2 c =
-    let a = c .before .before .before .before .before .before .before .before .before .before .args in
-    rw (c .before .before .put-at .ensures .1, c .before .before .before .before .before .bytes-of .ensures)
-    (wrote (a .r) (a .coasting) (now (a .out)) (cc))
+    let put = c .before .before in
+    let bytes = put .before .before .before in
+    let w = bytes .before .before .before in
+    let a = w .before .before .args in
+    rw (put .put-at .ensures .1, bytes .bytes-of .ensures)
+    (wrote (a .r) (a .coasting) (now (a .out)) (sym (w .write-fault .ensures) ∙ bytes .before .enum-told .given .1))
 
 pub into-spec : {M : Type 1} → statement M
 into-spec =

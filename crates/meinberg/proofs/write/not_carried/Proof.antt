@@ -9,7 +9,7 @@ zone-carried-requires c κs = search needs
 
 returns : tie.Need-returns
 unfolding notCarried
-returns c = cc
+returns c = rw (c .before .before .before .zone-carried .ensures)
 
 pub not-carried-spec : {M : Type 1} → statement M
 not-carried-spec = tie.close (tie.spec zone-carried-requires returns)

@@ -10,7 +10,7 @@ ones-requires : tie.Need-ones-requires
 ones-requires c κs = search needs
 
 returns : tie.Need-returns
-returns c = cc
+returns c = rw (c .ones .ensures, c .before .weekday .ensures)
 
 pub weekday-digit-spec : {M : Type 1} → statement M
 weekday-digit-spec = tie.close (tie.spec weekday-requires ones-requires returns)

@@ -15,7 +15,7 @@ is-zone-requires-3 c κs = search needs
 
 returns : tie.Need-returns
 unfolding zoneCarried
-returns c = cc
+returns c = rw (c .is-zone3 .ensures, c .before .is-zone2 .ensures, c .before .before .is-zone .ensures)
 
 pub zone-carried-spec : {M : Type 1} → statement M
 zone-carried-spec =
