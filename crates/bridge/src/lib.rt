@@ -5,6 +5,7 @@ use irig::Ieee1344;
 use meinberg::Meinberg;
 use reading::Fault;
 use reading::Reading;
+use reading::Refusal;
 use reading::Written;
 use reading::faults::refusal_of;
 use reading::leap::change_window;
@@ -25,19 +26,27 @@ pub enum Kind {
     Erlangen,
 }
 
-// A refusal leaves `out` as it was. The room is looked at before the string.
+// The room is looked at before the string.
 pub fn bridge(kind: Kind, s: &[u8], out: &mut [u8]) -> Written
     ensures { λ w. ⌜ w ≡ bridgeAnswer base kind (now (s .entry)) (length (now (out .entry))) ⌝ }
     ensures { λ w. ⌜ now (out .exit) ≡ bridgeFilled base kind (now (s .entry)) (now (out .entry)) ⌝ }
 {
     if out.len() < Ieee1344::LENGTH {
-        return Written::No(refusal_of(Fault::Length));
+        return refuse(refusal_of(Fault::Length), out);
     }
     let answer = read_string(kind, s);
     match answer {
         Answer::Time(r, _) => Ieee1344::write(pending_of(r), out),
-        Answer::No(refusal) => Written::No(refusal),
+        Answer::No(refusal) => refuse(refusal, out),
     }
+}
+
+// Every refusal says why, and leaves `out` as it was.
+fn refuse(refusal: Refusal, out: &mut [u8]) -> Written
+    ensures { λ w. ⌜ w ≡ Written.No refusal ⌝ }
+    ensures { λ w. ⌜ now (out .exit) ≡ now (out .entry) ⌝ }
+{
+    Written::No(refusal)
 }
 
 fn read_string(kind: Kind, s: &[u8]) -> Answer

@@ -6,8 +6,6 @@ use Rattle.calendar.proofs.months.days_in.Kinds as days-in-kinds
 use Rattle.calendar.proofs.months.days_in.Reads as days-in-reads
 use Rattle.calendar.proofs.months.is_month.Kinds as is-month-kinds
 use Rattle.calendar.proofs.months.is_month.Reads as is-month-reads
-use Rattle.calendar.proofs.months.last_day.Kinds as last-day-kinds
-use Rattle.calendar.proofs.months.last_day.Reads as last-day-reads
 use Rattle.calendar.proofs.months.is_day.Kinds as is-day-kinds
 use Rattle.calendar.proofs.months.is_day.Reads as is-day-reads
 use Rattle.calendar.proofs.months.is_date.Kinds as is-date-kinds
@@ -35,9 +33,6 @@ days-in-one κs a x y e f p q = cc
 
 pub is-month-one : Coincide 0 is-month-kinds.ps is-month-kinds.r is-month-reads.Post
 is-month-one κs a x y e f p q = cc
-
-pub last-day-one : Coincide 0 last-day-kinds.ps last-day-kinds.r last-day-reads.Post
-last-day-one κs a x y e f p q = cc
 
 pub is-day-one : Coincide 0 is-day-kinds.ps is-day-kinds.r is-day-reads.Post
 is-day-one κs a x y e f p q = cc

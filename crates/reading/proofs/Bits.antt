@@ -1,14 +1,13 @@
--- What the machine makes of an offset: its bits read back, and their negative, for tests over every `i8`.
-use mathlib.Core.Bool.{Bool, true, false}
-use mathlib.Core.Path.{_≡_}
-use Prim.Native.Nat.{_<_}
-use lib.Dec.{T}
-use lib.IntN.{ℤ, pos, _-ℤ_}
-use lib.Signed.{ltZ, mag}
+-- What the machine makes of an offset: its bits read back are the offset, and the negative that it takes of them is the opposite.
+use mathlib.Core.Path.{_≡_, sym, ap, subst, _∙_}
+use Prim.Native.Nat.{zero, suc, _+_, _≤_, _<_}
+use native.Mathlib.Omega.{arith}
+use lib.IntN.{ℤ, pos, negsuc, _-ℤ_, +ℤ-idl}
+use lib.Signed.{mag}
 use mir.Syntax.{w8, w16}
-use mir.Val.{toZ, ofZ}
-use Rattle.laws.proofs.Bools.{holds, where-so, then, where-not, otherwise}
-use Rattle.laws.proofs.Signed.{all, each}
+use mir.Val.{SFits, toZ, ofZ}
+use mir.Facts.{toZ-ofZ}
+use Rattle.reading.specs.Offset.{opposite}
 
 -- an offset, read back from its bits
 abbrev pub back : ℤ → ℤ
@@ -22,13 +21,29 @@ back16 z = toZ w16 (ofZ w16 z)
 abbrev pub negated : ℤ → ℤ
 negated z = pos 0 -ℤ back16 (back z)
 
--- ---- tests over the offsets below zero, and over the others
+-- the opposite of a number is hardly larger
+pub opposite-size : (z : ℤ) → mag (opposite z) ≤ mag z + 1
+opposite-size (pos zero) = omega arith
+opposite-size (pos (suc n)) = omega arith
+opposite-size (negsuc n) = omega arith
 
-abbrev pub low : ℤ → Bool
-low z = ltZ (back z) (pos 0)
+-- an amount is read back as it is
+pub same-amount : (z : ℤ) → mag z < 32768 → back16 z ≡ z
+same-amount z h = toZ-ofZ (record { sfits = h })
 
-pub below-zero : (Q : ℤ → Bool) → T (all 128 (λ z. where-so (low z) (Q z))) → (z : ℤ) → mag z < 128 → low z ≡ true → T (Q z)
-below-zero Q t z h e = then (low z) (Q z) (each 128 (λ z. where-so (low z) (Q z)) t z h) (holds (low z) e)
+-- and so is an offset, as what it is and as an amount; its negative is an amount, and is the opposite
+module _ (z : ℤ) (h : mag z < 128) where
+  pub same-offset : back z ≡ z
+  same-offset = toZ-ofZ (record { sfits = h })
 
-pub from-zero : (Q : ℤ → Bool) → T (all 128 (λ z. where-not (low z) (Q z))) → (z : ℤ) → mag z < 128 → low z ≡ false → T (Q z)
-from-zero Q t z h e = otherwise (low z) (Q z) (each 128 (λ z. where-not (low z) (Q z)) t z h) e
+  pub offset-fits : SFits w16 (back z)
+  offset-fits = subst (λ (y : ℤ). SFits w16 y) (sym same-offset) (record { sfits = omega arith })
+
+  pub negated-is : negated z ≡ opposite z
+  negated-is = ap (λ (y : ℤ). pos 0 -ℤ y) (toZ-ofZ offset-fits ∙ same-offset) ∙ +ℤ-idl (opposite z)
+
+  pub negated-fits : SFits w16 (negated z)
+  negated-fits = subst (λ (y : ℤ). SFits w16 y) (sym negated-is) (record { sfits = omega (arith, opposite-size z) })
+
+  pub negated-back : back16 (negated z) ≡ opposite z
+  negated-back = toZ-ofZ negated-fits ∙ negated-is

@@ -1,30 +1,40 @@
--- The two senses of offset are each other's negative, and an offset lies west or east of UTC, not both.
-use mathlib.Core.Bool.{true, cond}
-use mathlib.Core.Logic.{_⊎_, inl, inr}
-use mathlib.Core.Path.{_≡_, refl, ap}
+-- The two senses of offset are each other's negative, and which offsets are good.
+use mathlib.Core.Bool.{Bool, true, false, cond}
+use mathlib.Core.Path.{_≡_, refl, sym, ap, _∙_}
 use Prim.Native.Nat.{ℕ, zero, suc, _≤_, _<_}
 use native.Mathlib.Omega.{arith}
-use lib.Dec.{T, leb, ltb}
-use lib.IntN.{ℤ, pos, negsuc, negℤ, negℤ-negℤ}
+use lib.Dec.{leb, ltb}
+use lib.IntN.{ℤ, pos, negsuc, negℤ-negℤ}
 use lib.Signed.{mag}
-use borrow.Author.Tests.{leb-true, lt-ltb}
+use borrow.Author.Tests.{leb-true, ltb-false}
 use Rattle.laws.proofs.Bools.{both}
-use Rattle.laws.proofs.Signed.{each, same, same-is}
 use Rattle.reading.specs.Offset.{westmost, eastmost, west, east, offsetGood, opposite, localOf}
 
 -- what is added to local time is the opposite of local minus UTC, and back
 pub opposite-twice : (z : ℤ) → opposite (opposite z) ≡ z
 opposite-twice z = negℤ-negℤ z
 
+-- a number that is at most another is what is left of it under that bound
+bounded : (n top : ℕ) → n ≤ top → cond (ltb n top) n top ≡ n
+bounded n top h = go (ltb n top) refl
+  where
+    go : (b : Bool) → ltb n top ≡ b → cond b n top ≡ n
+    go true e = refl
+    go false e = let k = ltb-false n top e in omega arith
+
+-- an amount that an offset is the opposite of
+abbrev pub Amount : ℤ → Type 0
+Amount z = mag (opposite z) < 128
+
+pub local-is : (z : ℤ) → Amount z → localOf z ≡ opposite z
+unfolding localOf
+local-is (pos zero) h = refl
+local-is (pos (suc n)) h = ap (λ (m : ℕ). opposite (pos m)) (bounded (suc n) 128 (omega arith))
+local-is (negsuc n) h = ap (λ (m : ℕ). opposite (negsuc m)) (bounded n 126 (omega arith))
+
 -- an offset that goes over into the other sense comes back as it was
 pub local-back : (z : ℤ) → mag z < 128 → localOf (opposite z) ≡ z
-unfolding localOf
-local-back z h = same-is _ _ (each 128 (λ z. same (localOf (opposite z)) z) tt z h)
-
-pub one-side : (z : ℤ) → (west z ≡ 0) ⊎ (east z ≡ 0)
-unfolding west east
-one-side (pos n) = inl refl
-one-side (negsuc n) = inr refl
+local-back z h = local-is (opposite z) (rw (opposite-twice z) h) ∙ opposite-twice z
 
 pub offset-range : (z : ℤ) → offsetGood z ≡ true → (west z ≤ westmost) × (east z ≤ eastmost)
 unfolding offsetGood

@@ -20,8 +20,6 @@ use Rattle.reading.proofs.years.year_of.Kinds as year-of-kinds
 use Rattle.reading.proofs.years.year_of.Reads as year-of-reads
 use Rattle.reading.proofs.universal.utc_of.Kinds as utc-of-kinds
 use Rattle.reading.proofs.universal.utc_of.Reads as utc-of-reads
-use Rattle.reading.proofs.leap.closes_with_leap.Kinds as closes-with-leap-kinds
-use Rattle.reading.proofs.leap.closes_with_leap.Reads as closes-with-leap-reads
 use Rattle.reading.proofs.leap.leap_minute.Kinds as leap-minute-kinds
 use Rattle.reading.proofs.leap.leap_minute.Reads as leap-minute-reads
 use Rattle.reading.proofs.leap.leap_window.Kinds as leap-window-kinds
@@ -36,8 +34,6 @@ use Rattle.reading.proofs.checks.minute_bad.Kinds as minute-bad-kinds
 use Rattle.reading.proofs.checks.minute_bad.Reads as minute-bad-reads
 use Rattle.reading.proofs.checks.second_bad.Kinds as second-bad-kinds
 use Rattle.reading.proofs.checks.second_bad.Reads as second-bad-reads
-use Rattle.reading.proofs.checks.quality_bad.Kinds as quality-bad-kinds
-use Rattle.reading.proofs.checks.quality_bad.Reads as quality-bad-reads
 use Rattle.reading.proofs.checks.leap_second_bad.Kinds as leap-second-bad-kinds
 use Rattle.reading.proofs.checks.leap_second_bad.Reads as leap-second-bad-reads
 use Rattle.reading.proofs.checks.checked.Kinds as checked-kinds
@@ -72,9 +68,6 @@ year-of-one κs a x y e f p q = cc
 pub utc-of-one : Coincide 0 utc-of-kinds.ps utc-of-kinds.r utc-of-reads.Post
 utc-of-one κs a x y e f p q = cc
 
-pub closes-with-leap-one : Coincide 0 closes-with-leap-kinds.ps closes-with-leap-kinds.r closes-with-leap-reads.Post
-closes-with-leap-one κs a x y e f p q = cc
-
 pub leap-minute-one : Coincide 0 leap-minute-kinds.ps leap-minute-kinds.r leap-minute-reads.Post
 leap-minute-one κs a x y e f p q = cc
 
@@ -95,9 +88,6 @@ minute-bad-one κs a x y e f p q = cc
 
 pub second-bad-one : Coincide 0 second-bad-kinds.ps second-bad-kinds.r second-bad-reads.Post
 second-bad-one κs a x y e f p q = cc
-
-pub quality-bad-one : Coincide 0 quality-bad-kinds.ps quality-bad-kinds.r quality-bad-reads.Post
-quality-bad-one κs a x y e f p q = cc
 
 pub leap-second-bad-one : Coincide 0 leap-second-bad-kinds.ps leap-second-bad-kinds.r leap-second-bad-reads.Post
 leap-second-bad-one κs a x y e f p q = cc

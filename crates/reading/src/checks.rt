@@ -49,7 +49,7 @@ fn date_bad(r: Reading) -> bool
     !(in_hundred(r.year) & is_date(date))
 }
 
-pub fn quality_bad(quality: u8) -> bool
+fn quality_bad(quality: u8) -> bool
     ensures { λ r. ⌜ r ≡ qualityBad quality ⌝ }
 {
     15 < quality

@@ -8,13 +8,13 @@ ghost use Rattle.reading.specs.Leap.{closesWithLeap, leapMinute, withinM
 // 23:59.
 const LAST_MINUTE: u16 = 1439;
 
-pub fn closes_with_leap(date: Date) -> bool
+fn closes_with_leap(date: Date) -> bool
     ensures { λ r. ⌜ r ≡ closesWithLeap date ⌝ }
 {
     (date.month == 6) & (date.day == 30) | (date.month == 12) & (date.day == 31)
 }
 
-pub fn leap_minute(utc: Utc) -> bool
+pub(crate) fn leap_minute(utc: Utc) -> bool
     ensures { λ r. ⌜ r ≡ leapMinute utc ⌝ }
 {
     let date = utc.date;

@@ -26,7 +26,9 @@ fn utc_minutes(hour: u8, minute: u8, offset: LocalMinusUtc) -> u16
     ensures { λ r. ⌜ r ≡ utcMinutes hour minute (offset .0) ⌝ }
 {
     let local = DAY + (hour as u16) * 60 + (minute as u16);
-    less(local + UNIT * offset.west(), UNIT * offset.east())
+    let behind = UNIT * offset.west();
+    let ahead = UNIT * offset.east();
+    less(local + behind, ahead)
 }
 
 fn on_day(date: Date, minutes: u16) -> Utc

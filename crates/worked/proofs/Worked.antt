@@ -1,5 +1,6 @@
--- "Cases 1 to 10 are proved of the written definitions by a single statement over a list of them."
-use mathlib.Core.List.{map}
+-- "Cases 1 to 10 are proved of the written definitions by a single statement over a list of them." The same statement holds of
+-- a second list, which pins codes, places, letters and pulses that the cases leave open.
+use mathlib.Core.List.{List, map}
 use mathlib.Core.Path.{_≡_, refl}
 use Rattle.calendar.specs.Calendar.{leapYear, daysIn, daysBefore, yearLength, daysBeforeYear, dayOfYear, dayNumber, weekdayOf, isMonth, lastDay, isDay, isDate, dayBefore, dayAfter, yearAfter, monthUpTo, inYear, monthDay}
 use Rattle.reading.specs.Faults.{number}
@@ -9,25 +10,63 @@ use Rattle.reading.specs.Universal.{utcMinutes, onDay, utcOf}
 use Rattle.reading.specs.Leap.{closesWithLeap, leapMinute, sixtyBad, afterLeap}
 use Rattle.reading.specs.Checks.{timeBad, dateBad, checkedOf}
 use Rattle.reading.specs.Stamps.{hasStamp, stampNumber, stampAt, stampOf}
-use Rattle.wire.specs.Digits.{digit, pair}
-use Rattle.wire.specs.Layout.{packed, exactly, from, either, oneOf, within, beside, allowed, goodPlaces}
-use Rattle.strings.specs.Checks.{dayBad as dayWrong, monthBad, weekdayBad, weekdayWrong, faultOf}
-use Rattle.meinberg.specs.Layout.{layout}
-use Rattle.meinberg.specs.Zones.{offsetOf, summerOf}
-use Rattle.meinberg.specs.Meaning.{qualityOf, coastingIn, meaning, faultIn as stringFault, readMeinberg}
+use Rattle.wire.specs.Digits.{digit, pair, tens, ones}
+use Rattle.wire.specs.Layout.{packed, exactly, from, either, oneOf, within, beside, allowed, goodPlaces, printable, printables}
+use Rattle.strings.specs.Checks as strings
+use Rattle.meinberg.specs.Layout as meinberg-layout
+use Rattle.meinberg.specs.Zones as zones
+use Rattle.meinberg.specs.Meaning as meinberg
+use Rattle.meinberg.specs.Writing as meinberg-writing
+use Rattle.erlangen.specs.Layout as erlangen-layout
+use Rattle.erlangen.specs.Offset as erlangen-offset
+use Rattle.erlangen.specs.Meaning as erlangen
+use Rattle.erlangen.specs.Writing as erlangen-writing
 use Rattle.pulses.specs.Row.{groupOf, weightOf, pulseAllowed, pulseOf, digitOf, pulseFor, row, goodPulses, shareOf, sumOf, sumsOf, upTo, onesFrom, liesWithin, onesOf}
 use Rattle.irig_table.specs.Table.{framePulses}
-use Rattle.irig.specs.Meaning.{secondIn, minuteIn, hourIn, dayIn, digitsIn, halvesIn, addedIn, yearIn, monthDayIn, readingOf, dayBad, secondOfDayWrong, offsetBad}
-use Rattle.irig.specs.Faults.{isOdd, fieldsFault, valuesFault, faultIn as frameFault, readFrame}
-use Rattle.irig.specs.Writing.{groupsOf, valuesOf as frameValues, parityOf, frameOf}
+use Rattle.irig.specs.Meaning as frame
+use Rattle.irig.specs.Faults as frame-faults
+use Rattle.irig.specs.Writing as frame-writing
 use Rattle.dcf77_table.specs.Table.{sharedMarks, lastMarks, minuteMarks}
-use Rattle.dcf77.specs.Zones.{zoneOf}
-use Rattle.dcf77.specs.Forms.{dueLong}
-use Rattle.dcf77.specs.Writer.{plainOf, evened, withParity, valuesOf as minuteValues, bytesOf}
+use Rattle.dcf77.specs.Zones as minute-zones
+use Rattle.dcf77.specs.Forms as forms
+use Rattle.dcf77.specs.Reader as minute
+use Rattle.dcf77.specs.Writer as minute-writing
 use Rattle.worked.specs.Questions.{Case, answerTo}
-use Rattle.worked.specs.Cases.{among, withOnes, cases}
+use Rattle.worked.specs.Given.{among, withOnes, turned}
+use Rattle.worked.specs.Cases.{cases}
+use Rattle.worked.specs.Pinned.{pinned}
 
--- every case is answered as the paper answers it
-pub worked : map (λ (c : Case). answerTo (c .asked)) cases ≡ map (λ (c : Case). c .answer) cases
-unfolding cases among withOnes answerTo stampOf stampAt stampNumber hasStamp checkedOf timeBad dateBad sixtyBad leapMinute closesWithLeap afterLeap utcOf onDay utcMinutes inHundred yearOf west east offsetGood localOf number leapYear daysIn daysBefore yearLength daysBeforeYear dayOfYear dayNumber weekdayOf isMonth lastDay isDay isDate dayBefore dayAfter yearAfter monthUpTo inYear monthDay digit pair packed exactly from either oneOf within beside allowed goodPlaces dayWrong monthBad weekdayBad weekdayWrong faultOf layout offsetOf summerOf qualityOf coastingIn meaning stringFault readMeinberg groupOf weightOf pulseAllowed pulseOf digitOf pulseFor row goodPulses shareOf sumOf sumsOf upTo onesFrom liesWithin onesOf framePulses secondIn minuteIn hourIn dayIn digitsIn halvesIn addedIn yearIn monthDayIn readingOf dayBad secondOfDayWrong offsetBad isOdd fieldsFault valuesFault frameFault readFrame groupsOf frameValues parityOf frameOf sharedMarks lastMarks minuteMarks zoneOf dueLong plainOf evened withParity minuteValues bytesOf
-worked = refl
+-- each question of the list is answered as the paper answers it
+abbrev pub AsPaper : List Case → Type 0
+AsPaper l = map (λ (c : Case). answerTo (c .asked)) l ≡ map (λ (c : Case). c .answer) l
+
+pub worked : AsPaper cases × AsPaper pinned
+unfolding cases pinned among withOnes turned answerTo
+    stampOf stampAt stampNumber hasStamp checkedOf timeBad dateBad sixtyBad leapMinute closesWithLeap afterLeap
+    utcOf onDay utcMinutes inHundred yearOf west east offsetGood localOf number
+    leapYear daysIn daysBefore yearLength daysBeforeYear dayOfYear dayNumber weekdayOf
+    isMonth lastDay isDay isDate dayBefore dayAfter yearAfter monthUpTo inYear monthDay
+    digit pair tens ones packed exactly from either oneOf within beside allowed goodPlaces printable printables
+    strings.dayBad strings.monthBad strings.weekdayBad strings.weekdayWrong strings.faultOf
+    meinberg-layout.layout zones.offsetOf zones.summerOf zones.sameOffset zones.isZone zones.zoneCarried zones.zoneLetter
+    meinberg.qualityOf meinberg.coastingIn meinberg.meaning meinberg.faultIn meinberg.readMeinberg
+    meinberg-writing.announcement meinberg-writing.bytesOf meinberg-writing.notCarried meinberg-writing.writeFault
+    erlangen-layout.layout erlangen-offset.wholeUnits erlangen-offset.unitsOf erlangen-offset.tooFar erlangen-offset.offsetBad
+    erlangen-offset.signed erlangen-offset.offsetOf erlangen-offset.isBehind erlangen-offset.minutesOf
+    erlangen.shows erlangen.weekdaySaid erlangen.coastingSaid erlangen.offsetWrong erlangen.markWrong erlangen.readingOf
+    erlangen.faultIn erlangen.readErlangen
+    erlangen-writing.dateBytes erlangen-writing.timeBytes erlangen-writing.offsetBytes erlangen-writing.flagBytes erlangen-writing.bytesOf
+    erlangen-writing.notCarried erlangen-writing.lengthBad erlangen-writing.carriedOf erlangen-writing.writeFault
+    groupOf weightOf pulseAllowed pulseOf digitOf pulseFor row goodPulses shareOf sumOf sumsOf upTo onesFrom liesWithin onesOf
+    framePulses frame.secondIn frame.minuteIn frame.hourIn frame.dayIn frame.digitsIn frame.halvesIn frame.addedIn frame.yearIn
+    frame.monthDayIn frame.readingOf frame.dayBad frame.secondOfDayWrong frame.offsetBad
+    frame-faults.isOdd frame-faults.fieldsFault frame-faults.valuesFault frame-faults.faultIn frame-faults.readFrame
+    frame-writing.groupsOf frame-writing.valuesOf frame-writing.parityOf frame-writing.frameOf frame-writing.writeFault
+    sharedMarks lastMarks minuteMarks minute-zones.offsetIn minute-zones.zoneOf minute-zones.zoneBad
+    forms.lengthOf forms.lastOf forms.dueLong
+    minute.isLong minute.tableFor minute.says minute.readingOf minute.lengthBad minute.digitFault minute.odd minute.parityFault
+    minute.dayBad minute.fieldFault minute.weekdayWrong minute.ruleFault minute.saidFault minute.readFault minute.readDcf77
+    minute-writing.plainOf minute-writing.evened minute-writing.withParity minute-writing.valuesOf minute-writing.bytesOf
+    minute-writing.headBad minute-writing.checkedWith minute-writing.notCarried minute-writing.carryFault
+    minute-writing.needed minute-writing.roomFault minute-writing.writeFault
+worked = (refl, refl)

@@ -1,69 +1,33 @@
 -- "Worked dates and frames": the cases of document 01 as data, in its order and with its numbers.
-use mathlib.Core.Bool.{Bool, true, false, cond, _||_}
+use mathlib.Core.Bool.{false}
 use mathlib.Core.List.{List, [], _∷_, _++_}
-use Prim.Native.Nat.{ℕ, zero, suc, _%_}
-use lib.Dec.{eqb}
-use lib.IntN.{ℤ, pos, negsuc}
+use Prim.Native.Nat.{ℕ}
 use Rattle.calendar.specs.declared.Date.{Date}
-use Rattle.reading.specs.declared.Reading.{Reading}
-use Rattle.reading.specs.declared.Refusal.{Refusal}
-use Rattle.reading.specs.declared.Verdict.the-variants.{Good}
-use Rattle.reading.specs.declared.Stamp.the-variants.{At, Refused}
-use Rattle.irig.specs.declared.Answer.the-variants.{Time, No}
-use Rattle.worked.specs.Questions.{Case, weekday, check, stamp, meinberg, frame, pulses, minute, day, verdict, stamped, row, framed}
-
--- a local date, time and offset, with no flags and quality 0
-abbrev pub at : ℕ → ℕ → ℕ → ℕ → ℕ → ℕ → ℤ → Reading
-at y mo d h mi s z =
-    record {
-      year = y;
-      month = mo;
-      day = d;
-      hour = h;
-      minute = mi;
-      second = s;
-      offset = record { 0 = z };
-      summer = false;
-      leap = false;
-      change = false;
-      quality = 0;
-    }
+use Rattle.worked.specs.Questions.{
+  Case,
+  gives,
+  weekday,
+  stamp,
+  stampOfString,
+  meinberg,
+  erlangen,
+  pulses,
+  marks,
+  toPulses,
+  toMarks,
+  day,
+  stamped,
+  told,
+  toldString,
+  toldMinute,
+  refused,
+  wrote,
+  wroteNone,
+}
+use Rattle.worked.specs.Given.{at, plus, minus, case6, case8, case9, frameWith, turned, frame6, minute8, erlangen6, noFlags, sevens}
 
 abbrev date : ℕ → ℕ → ℕ → Date
 date y m d = record { year = y; month = m; day = d }
-
-abbrev refusal : ℕ → ℕ → Refusal
-refusal code place = record { code = code; place = place }
-
--- east and west of UTC, in half hours
-abbrev plus : ℕ → ℤ
-plus n = pos n
-
--- i is one of the places
-unfoldable pub among : ℕ → List ℕ → Bool
-among i [] = false
-among i (p ∷ places) = eqb i p || among i places
-
--- n pulses with ones at the places given, and a 2 where one is due
-unfoldable pub withOnes : (ℕ → Bool) → List ℕ → ℕ → List ℕ
-withOnes due places zero = []
-withOnes due places (suc n) = withOnes due places n ++ (cond (due n) 2 (cond (among n places) 1 0) ∷ [])
-
--- "Marks at 0, 9, 19, .. 99"
-abbrev pub frameMark : ℕ → Bool
-frameMark i = eqb i 0 || eqb (i % 10) 9
-
--- case 6's ones
-abbrev pub ones6 : List ℕ
-ones6 = 2 ∷ 3 ∷ 6 ∷ 8 ∷ 12 ∷ 15 ∷ 16 ∷ 21 ∷ 25 ∷ 36 ∷ 37 ∷ 52 ∷ 56 ∷ 64 ∷ 65 ∷ 75 ∷ 84 ∷ 85 ∷ 86 ∷ 87 ∷ 93 ∷ 94 ∷ 96 ∷ []
-
--- the same with pulse 84 cleared
-abbrev pub ones7 : List ℕ
-ones7 = 2 ∷ 3 ∷ 6 ∷ 8 ∷ 12 ∷ 15 ∷ 16 ∷ 21 ∷ 25 ∷ 36 ∷ 37 ∷ 52 ∷ 56 ∷ 64 ∷ 65 ∷ 75 ∷ 85 ∷ 86 ∷ 87 ∷ 93 ∷ 94 ∷ 96 ∷ []
-
--- case 8's ones
-abbrev pub ones8 : List ℕ
-ones8 = 18 ∷ 20 ∷ 23 ∷ 25 ∷ 26 ∷ 28 ∷ 30 ∷ 33 ∷ 36 ∷ 39 ∷ 41 ∷ 44 ∷ 46 ∷ 52 ∷ 55 ∷ 58 ∷ []
 
 -- STX `D:31.12.16;T:6;U:23.59.60;  UA` ETX
 abbrev pub string2 : List ℕ
@@ -73,35 +37,58 @@ string2 = 2 ∷ 68 ∷ 58 ∷ 51 ∷ 49 ∷ 46 ∷ 49 ∷ 50 ∷ 46 ∷ 49 ∷ 5
 abbrev pub string5 : List ℕ
 string5 = 2 ∷ 68 ∷ 58 ∷ 50 ∷ 57 ∷ 46 ∷ 48 ∷ 50 ∷ 46 ∷ 50 ∷ 51 ∷ 59 ∷ 84 ∷ 58 ∷ 51 ∷ 59 ∷ 85 ∷ 58 ∷ 49 ∷ 50 ∷ 46 ∷ 51 ∷ 52 ∷ 46 ∷ 53 ∷ 54 ∷ 59 ∷ 32 ∷ 32 ∷ 32 ∷ 32 ∷ 3 ∷ []
 
+-- case 9 as a frame: minute 30, day 1, what is added -1 hour, second of the day 1800
+abbrev pub frame9 : List ℕ
+frame9 = frameWith (15 ∷ 16 ∷ 30 ∷ 64 ∷ 65 ∷ 75 ∷ 83 ∷ 88 ∷ 90 ∷ 91 ∷ [])
+
+-- case 10 as a frame: case 6's ones, with the sign, hours, half hour and parity given
+abbrev pub frame10 : List ℕ → List ℕ
+frame10 offset = frameWith ((2 ∷ 3 ∷ 6 ∷ 8 ∷ 12 ∷ 15 ∷ 16 ∷ 21 ∷ 25 ∷ 36 ∷ 37 ∷ 52 ∷ 56 ∷ []) ++ offset ++ (84 ∷ 85 ∷ 86 ∷ 87 ∷ 93 ∷ 94 ∷ 96 ∷ []))
+
+-- case 10 as a string, with the six bytes voo:oo
+abbrev pub string10 : List ℕ → List ℕ
+string10 offset = erlangen6 offset noFlags
+
 unfoldable pub cases : List Case
 cases =
     -- 1. 2000-01-01 00:00:00 UTC: stamp 0
-    record { asked = stamp (at 2000 1 1 0 0 0 (plus 0)); answer = stamped (At 0) }
+    gives (stamp (at 2000 1 1 0 0 0 (plus 0))) (stamped 0)
     -- 2. `D:31.12.16;T:6;U:23.59.60;  UA`: stamp 536550209
-    ∷ record { asked = meinberg string2; answer = stamped (At 536550209) }
+    ∷ gives (stampOfString string2) (stamped 536550209)
     -- 3. 2017-01-01 00:59:60, offset +2: the same stamp; 00:00:00 UTC: 536550210
-    ∷ record { asked = stamp (at 2017 1 1 0 59 60 (plus 2)); answer = stamped (At 536550209) }
-    ∷ record { asked = stamp (at 2017 1 1 0 0 0 (plus 0)); answer = stamped (At 536550210) }
+    ∷ gives (stamp (at 2017 1 1 0 59 60 (plus 2))) (stamped 536550209)
+    ∷ gives (stamp (at 2017 1 1 0 0 0 (plus 0))) (stamped 536550210)
     -- 4. 2017-01-02 00:59:60, offset +2: code 9
-    ∷ record { asked = stamp (at 2017 1 2 0 59 60 (plus 2)); answer = stamped (Refused (refusal 9 0)) }
+    ∷ gives (stamp (at 2017 1 2 0 59 60 (plus 2))) (refused 9 0)
     -- 5. 29.02.24 is weekday 4; 29.02.23: code 5
-    ∷ record { asked = weekday (date 2024 2 29); answer = day 4 }
-    ∷ record { asked = meinberg string5; answer = stamped (Refused (refusal 5 0)) }
+    ∷ gives (weekday (date 2024 2 29)) (day 4)
+    ∷ gives (meinberg string5) (refused 5 0)
     -- 6. 2024-02-29 12:34:56, offset +2, no flags, quality 0: the ones of the IEEE 1344 frame
-    ∷ record { asked = frame (at 2024 2 29 12 34 56 (plus 2)); answer = row (withOnes frameMark ones6 100) }
-    ∷ record { asked = pulses (withOnes frameMark ones6 100); answer = framed (Time (at 2024 2 29 12 34 56 (plus 2))) }
+    ∷ gives (toPulses (case6 (plus 2)) (sevens 102)) (wrote 100 (frame6 ++ sevens 2))
+    ∷ gives (pulses frame6) (told (case6 (plus 2)))
     -- 7. the same with pulse 84 cleared: code 7
-    ∷ record { asked = pulses (withOnes frameMark ones7 100); answer = framed (No (refusal 7 0)) }
+    ∷ gives (pulses (turned (84 ∷ []) frame6)) (refused 7 0)
     -- 8. 2024-02-29 12:34, offset +2, head 0: the ones of the DCF77 minute, 2 at 59
-    ∷ record { asked = minute (at 2024 2 29 12 34 0 (plus 2)) 0; answer = row (withOnes (eqb 59) ones8 60) }
+    ∷ gives (toMarks case8 0 (sevens 62)) (wrote 60 (minute8 ++ sevens 2))
+    ∷ gives (marks minute8) (toldMinute case8 0)
     -- 9. 2000-01-01 00:30:00, offset +2: accepted, its stamp is code 12
-    ∷ record { asked = check (at 2000 1 1 0 30 0 (plus 2)); answer = verdict Good }
-    ∷ record { asked = stamp (at 2000 1 1 0 30 0 (plus 2)); answer = stamped (Refused (refusal 12 0)) }
+    ∷ gives (toPulses case9 (sevens 100)) (wrote 100 frame9)
+    ∷ gives (pulses frame9) (told case9)
+    ∷ gives (stamp case9) (refused 12 0)
     -- 10. case 6's date and time: offset +28 accepted, +29 code 8; -24 accepted, -25 code 8
-    ∷ record { asked = check (at 2024 2 29 12 34 56 (plus 28)); answer = verdict Good }
-    ∷ record { asked = stamp (at 2024 2 29 12 34 56 (plus 29)); answer = stamped (Refused (refusal 8 0)) }
-    ∷ record { asked = check (at 2024 2 29 12 34 56 (negsuc 23)); answer = verdict Good }
-    ∷ record { asked = stamp (at 2024 2 29 12 34 56 (negsuc 24)); answer = stamped (Refused (refusal 8 0)) }
+    ∷ gives (toPulses (case6 (plus 28)) (sevens 100)) (wrote 100 (frame10 (64 ∷ 66 ∷ 67 ∷ 68 ∷ 75 ∷ [])))
+    ∷ gives (pulses (frame10 (64 ∷ 66 ∷ 67 ∷ 68 ∷ 75 ∷ []))) (told (case6 (plus 28)))
+    ∷ gives (toPulses (case6 (plus 29)) (sevens 100)) (wroteNone 8 0 (sevens 100))
+    ∷ gives (pulses (frame10 (64 ∷ 66 ∷ 67 ∷ 68 ∷ 70 ∷ []))) (refused 8 0)
+    ∷ gives (toPulses (case6 (minus 24)) (sevens 100)) (wrote 100 (frame10 (67 ∷ 68 ∷ 75 ∷ [])))
+    ∷ gives (pulses (frame10 (67 ∷ 68 ∷ 75 ∷ []))) (told (case6 (minus 24)))
+    ∷ gives (toPulses (case6 (minus 25)) (sevens 100)) (wroteNone 8 0 (sevens 100))
+    ∷ gives (pulses (frame10 (67 ∷ 68 ∷ 70 ∷ []))) (refused 8 0)
+    -- the same in Uni Erlangen strings: `+14:00`, `+14:30`, `-12:00`, `-12:30`
+    ∷ gives (erlangen (string10 (43 ∷ 49 ∷ 52 ∷ 58 ∷ 48 ∷ 48 ∷ []))) (toldString (case6 (plus 28)) false)
+    ∷ gives (erlangen (string10 (43 ∷ 49 ∷ 52 ∷ 58 ∷ 51 ∷ 48 ∷ []))) (refused 8 0)
+    ∷ gives (erlangen (string10 (45 ∷ 49 ∷ 50 ∷ 58 ∷ 48 ∷ 48 ∷ []))) (toldString (case6 (minus 24)) false)
+    ∷ gives (erlangen (string10 (45 ∷ 49 ∷ 50 ∷ 58 ∷ 51 ∷ 48 ∷ []))) (refused 8 0)
     -- the largest stamp
-    ∷ record { asked = stamp (at 2099 12 31 23 59 60 (plus 0)); answer = stamped (At 3155796524) }
+    ∷ gives (stamp (at 2099 12 31 23 59 60 (plus 0))) (stamped 3155796524)
     ∷ []

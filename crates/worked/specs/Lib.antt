@@ -1,2 +1,4 @@
 pub mod Questions
+pub mod Given
 pub mod Cases
+pub mod Pinned

@@ -1,60 +1,118 @@
--- What a worked case asks, and what the written definitions answer.
+-- What a worked case asks, and what the written definitions answer: those that the contracts of readers, writers and stamping cite.
+use mathlib.Core.Bool.{Bool}
 use mathlib.Core.List.{List}
 use Prim.Native.Nat.{ℕ}
+use lib.ListN.{length}
 use Rattle.calendar.specs.declared.Date.{Date}
 use Rattle.calendar.specs.Calendar.{weekdayOf}
 use Rattle.reading.specs.declared.Reading.{Reading}
-use Rattle.reading.specs.declared.Refusal.{Refusal}
-use Rattle.reading.specs.declared.Stamp.{Stamp}
-use Rattle.reading.specs.declared.Stamp.the-variants.{Refused}
 use Rattle.reading.specs.declared.Verdict.{Verdict}
+use Rattle.reading.specs.declared.Written.{Written}
+use Rattle.reading.specs.declared.Written.the-variants as writing
+use Rattle.reading.specs.declared.Stamp.{Stamp}
+use Rattle.reading.specs.declared.Stamp.the-variants.{At, Refused}
 use Rattle.reading.specs.Years.{base}
-use Rattle.reading.specs.Checks.{checkedOf}
 use Rattle.reading.specs.Stamps.{stampOf}
+use Rattle.reading.specs.Writing.{writtenOf, filled}
 use Rattle.strings.specs.declared.Answer as strings
 use Rattle.strings.specs.declared.Answer.the-variants as string
+use Rattle.meinberg.specs.Layout.{textLength}
 use Rattle.meinberg.specs.Meaning.{readMeinberg}
+use Rattle.meinberg.specs.Writing.{bytesOf as meinbergBytes, writeFault as meinbergFault}
+use Rattle.erlangen.specs.Layout.{size}
+use Rattle.erlangen.specs.Meaning.{readErlangen}
+use Rattle.erlangen.specs.Writing.{bytesOf as erlangenBytes, writeFault as erlangenFault}
 use Rattle.irig.specs.declared.Answer as frames
-use Rattle.irig.specs.Faults.{readFrame}
-use Rattle.irig.specs.Writing.{frameOf}
-use Rattle.dcf77.specs.Writer.{bytesOf}
+use Rattle.irig.specs.declared.Answer.the-variants as frame
+use Rattle.irig.specs.Faults.{frameLength, readFrame}
+use Rattle.irig.specs.Writing.{frameOf, writeFault as frameFault}
+use Rattle.dcf77.specs.declared.Answer as minutes
+use Rattle.dcf77.specs.declared.Answer.the-variants as minute
+use Rattle.dcf77.specs.Forms.{lengthOf, dueLong}
+use Rattle.dcf77.specs.Reader.{readDcf77}
+use Rattle.dcf77.specs.Writer.{bytesOf as minuteBytes, writeFault as minuteFault}
 
 pub data Question : Type 0 where
   -- the weekday of a date
   weekday : Date → Question
-  -- the checks and the stamp of a reading
-  check : Reading → Question
+  -- the stamp of a reading, and that of what a Meinberg string says
   stamp : Reading → Question
-  -- the stamp of what a Meinberg string says
+  stampOfString : List ℕ → Question
+  -- what the reader of each format answers to the bytes given
   meinberg : List ℕ → Question
-  -- the pulses of a reading, and what pulses are read as
-  frame : Reading → Question
+  erlangen : List ℕ → Question
   pulses : List ℕ → Question
-  -- the marks of a reading and a head
-  minute : Reading → ℕ → Question
+  marks : List ℕ → Question
+  -- what the writer of each format does with a reading and a lent buffer: beside the reading a coasting mark, a coasting mark
+  -- and a position part, nothing, or a head
+  toMeinberg : Reading → Bool → List ℕ → Question
+  toErlangen : Reading → Bool → List ℕ → List ℕ → Question
+  toPulses : Reading → List ℕ → Question
+  toMarks : Reading → ℕ → List ℕ → Question
 
 pub data Answer : Type 0 where
   day : ℕ → Answer
-  verdict : Verdict → Answer
-  stamped : Stamp → Answer
-  row : List ℕ → Answer
-  framed : frames.Answer → Answer
+  stamped : ℕ → Answer
+  -- a reading, alone or with the coasting mark or the head beside it
+  told : Reading → Answer
+  toldString : Reading → Bool → Answer
+  toldMinute : Reading → ℕ → Answer
+  -- a code and a place
+  refused : ℕ → ℕ → Answer
+  -- how many bytes were written, or by which code and place none were, and what the buffer then holds
+  wrote : ℕ → List ℕ → Answer
+  wroteNone : ℕ → ℕ → List ℕ → Answer
+
+-- ---- the answers of the crates, one by one
+
+abbrev pub ofStamp : Stamp → Answer
+ofStamp (At v) = stamped v
+ofStamp (Refused x) = refused (x .code) (x .place)
+
+abbrev pub ofString : strings.Answer → Answer
+ofString (string.Time r coasting) = toldString r coasting
+ofString (string.No x) = refused (x .code) (x .place)
 
 -- the stamp of a string's answer; a refused string has its own refusal
-abbrev pub stampOfAnswer : strings.Answer → Stamp
-stampOfAnswer (string.Time r coasting) = stampOf base r
-stampOfAnswer (string.No refusal) = Refused refusal
+abbrev pub stampOfAnswer : strings.Answer → Answer
+stampOfAnswer (string.Time r coasting) = ofStamp (stampOf base r)
+stampOfAnswer (string.No x) = refused (x .code) (x .place)
 
--- the written definitions' answer
+abbrev pub ofFrame : frames.Answer → Answer
+ofFrame (frame.Time r) = told r
+ofFrame (frame.No x) = refused (x .code) (x .place)
+
+abbrev pub ofMinute : minutes.Answer → Answer
+ofMinute (minute.Time r head) = toldMinute r head
+ofMinute (minute.No x) = refused (x .code) (x .place)
+
+abbrev pub ofWritten : Written → List ℕ → Answer
+ofWritten (writing.Length n) after = wrote n after
+ofWritten (writing.No x) after = wroteNone (x .code) (x .place) after
+
+-- a writer that found this verdict, whose format has this length and these bytes, and a buffer
+abbrev pub afterWriting : Verdict → ℕ → List ℕ → List ℕ → Answer
+afterWriting v n bytes out = ofWritten (writtenOf v n) (filled v bytes out)
+
+-- ---- the written definitions' answer
+
 unfoldable pub answerTo : Question → Answer
 answerTo (weekday t) = day (weekdayOf t)
-answerTo (check r) = verdict (checkedOf base r)
-answerTo (stamp r) = stamped (stampOf base r)
-answerTo (meinberg s) = stamped (stampOfAnswer (readMeinberg base s))
-answerTo (frame r) = row (frameOf r)
-answerTo (pulses s) = framed (readFrame base s)
-answerTo (minute r head) = row (bytesOf r head)
+answerTo (stamp r) = ofStamp (stampOf base r)
+answerTo (stampOfString s) = stampOfAnswer (readMeinberg base s)
+answerTo (meinberg s) = ofString (readMeinberg base s)
+answerTo (erlangen s) = ofString (readErlangen base s)
+answerTo (pulses s) = ofFrame (readFrame base s)
+answerTo (marks s) = ofMinute (readDcf77 base s)
+answerTo (toMeinberg r coasting out) = afterWriting (meinbergFault base r (length out)) textLength (meinbergBytes r coasting) out
+answerTo (toErlangen r coasting position out) =
+    afterWriting (erlangenFault base r position (length out)) size (erlangenBytes r coasting position) out
+answerTo (toPulses r out) = afterWriting (frameFault base r (length out)) frameLength (frameOf r) out
+answerTo (toMarks r head out) = afterWriting (minuteFault base r head (length out)) (lengthOf (dueLong r)) (minuteBytes r head) out
 
 pub record Case : Type 0 where
   pub asked : Question
   pub answer : Answer
+
+abbrev pub gives : Question → Answer → Case
+gives asked answer = record { asked = asked; answer = answer }

@@ -30,12 +30,12 @@ module _ (base : ℕ) (kind : Kind) (s out : List ℕ) where
   abbrev Right : Written → List ℕ → Type 0
   Right w after = (w ≡ bridgeAnswer base kind s (length out)) × (after ≡ bridgeFilled base kind s out)
 
-  too-short : (n : Refusal) → length out < frameLength → n ≡ number Length → Right (Refused n) out
-  too-short n h q = let l = too-short-first base kind s out h in (ap Refused q ∙ sym (l .0), sym (l .1))
+  too-short : (n : Refusal) (w : Written) (after : List ℕ) → length out < frameLength → n ≡ number Length → w ≡ Refused n → after ≡ out → Right w after
+  too-short n w after h q e f = let l = too-short-first base kind s out h in (e ∙ ap Refused q ∙ sym (l .0), f ∙ sym (l .1))
 
   module _ (enough : frameLength ≤ length out) (a : Answer) (is : a ≡ readString base kind s) where
-    refused : (x : Refusal) → a ≡ No x → Right (Refused x) out
-    refused x e = let l = string-refusal-unchanged base kind s out enough x (sym is ∙ e) in (sym (l .0), sym (l .1))
+    refused : (x : Refusal) (w : Written) (after : List ℕ) → a ≡ No x → w ≡ Refused x → after ≡ out → Right w after
+    refused x w after e f g = let l = string-refusal-unchanged base kind s out enough x (sym is ∙ e) in (f ∙ sym (l .0), g ∙ sym (l .1))
 
     wrote : (r p : Reading) (coasting : Bool) (w : Written) (after : List ℕ) → a ≡ Time r coasting → p ≡ pendingOf r
         → w ≡ writtenOf (writeFault base p (length out)) frameLength → after ≡ filled (writeFault base p (length out)) (frameOf p) out
@@ -50,10 +50,19 @@ module _ (base : ℕ) (kind : Kind) (s out : List ℕ) where
 refusal-of-requires : tie.Need-refusal-of-requires
 refusal-of-requires c κs = search needs
 
+refuse-requires : tie.Need-refuse-requires
+refuse-requires c κs = search needs
+
+same-length : tie.Need-same-length
+same-length c = search needs
+
 returns : tie.Need-returns
 returns c =
-    let a = c .before .before .before .before .args in
-    too-short _ (a .kind) (a .s .now) (a .out .now) _ (omega arith) (c .refusal-of .ensures)
+    let w = c .before .before in
+    let n = w .before .before in
+    let a = n .before .before .before .before .args in
+    too-short _ (a .kind) (a .s .now) (a .out .now) (n .refusal-of .result) (w .refuse .result) (w .refuse .last .1 .0) (omega arith)
+    (n .refusal-of .ensures) (w .refuse .ensures .0) (w .refuse .ensures .1)
 
 read-string-requires : tie.Need-read-string-requires
 read-string-requires c κs = search needs
@@ -70,8 +79,11 @@ write-requires c κs = search needs
 enum-known-answer-2 : tie.Need-enum-known-answer-2
 enum-known-answer-2 c = search needs
 
-same-length : tie.Need-same-length
-same-length c = search needs
+refuse-requires-2 : tie.Need-refuse-requires-2
+refuse-requires-2 c κs = search needs
+
+same-length-2 : tie.Need-same-length-2
+same-length-2 c = search needs
 
 returns-2 : tie.Need-returns-2
 returns-2 c =
@@ -80,28 +92,37 @@ returns-2 c =
     let k = p .before .before in
     let t = k .before .before in
     let a = t .before .before .before .before .args in
-    wrote _ (a .kind) (a .s .now) (a .out .now) (omega arith) (t .read-string .result) (t .read-string .ensures)
-    (k .answer .given .0 .0) (p .pending-of .result) (k .answer .given .0 .1 .0) (w .write .result) (w .write .last .1 .0) (cc) (p .pending-of .ensures)
+    wrote _ (a .kind) (a .s .now) (a .out .now) (t .before .if1 .left) (t .read-string .result) (t .read-string .ensures)
+    (k .answer .given .0 .0) (p .pending-of .result) (k .answer .given .0 .1 .0) (w .write .result) (w .write .last .1 .0) (k .answer .given .1) (p .pending-of .ensures)
     (w .write .ensures .0) (w .write .ensures .1)
+
+same-length-3 : tie.Need-same-length-3
+same-length-3 c = search needs
 
 returns-3 : tie.Need-returns-3
 returns-3 c =
-    let t = c .before .before .before in
+    let w = c .before .before in
+    let k = w .before .before .before in
+    let t = k .before .before in
     let a = t .before .before .before .before .args in
-    refused _ (a .kind) (a .s .now) (a .out .now) (omega arith) (t .read-string .result) (t .read-string .ensures)
-    (c .before .answer2 .given .0 .0) (cc)
+    refused _ (a .kind) (a .s .now) (a .out .now) (t .before .if1 .left) (t .read-string .result) (t .read-string .ensures)
+    (k .answer2 .given .0 .0) (w .refuse2 .result) (w .refuse2 .last .1 .0) (k .answer2 .given .1) (w .refuse2 .ensures .0) (w .refuse2 .ensures .1)
 
 pub bridge-spec : {M : Type 1} → statement M
 bridge-spec =
     tie.close
     (tie.spec
     refusal-of-requires
+    refuse-requires
+    same-length
     returns
     read-string-requires
     enum-known-answer
     pending-of-requires
     write-requires
     enum-known-answer-2
-    same-length
+    refuse-requires-2
+    same-length-2
     returns-2
+    same-length-3
     returns-3)

@@ -12,7 +12,7 @@ change-window-requires c κs = search needs
 
 returns : tie.Need-returns
 unfolding pendingOf
-returns c = cc
+returns c = rw (c .before .before .leap-pending .ensures, c .before .change-window .ensures)
 
 pub pending-of-spec : {M : Type 1} → statement M
 pending-of-spec = tie.close (tie.spec leap-pending-requires change-window-requires returns)

@@ -34,10 +34,10 @@ read-requires-2 : tie.Need-read-requires-2
 read-requires-2 c κs = search needs
 
 returns : tie.Need-returns
-returns c = as-meinberg _ (c .before .before .before .before .args .kind) _ _ (cc) (c .read .ensures)
+returns c = as-meinberg _ (c .before .before .before .before .args .kind) _ _ (c .before .enum-told .given .1) (c .read .ensures)
 
 returns-2 : tie.Need-returns-2
-returns-2 c = as-erlangen _ (c .before .before .before .before .args .kind) _ _ (cc) (c .read2 .ensures)
+returns-2 c = as-erlangen _ (c .before .before .before .before .args .kind) _ _ (c .before .enum-told2 .given .1) (c .read2 .ensures)
 
 pub read-string-spec : {M : Type 1} → statement M
 read-string-spec = tie.close (tie.spec enum-told read-requires enum-told-2 read-requires-2 returns returns-2)

@@ -22,10 +22,10 @@ days-in-requires : tie.Need-days-in-requires
 days-in-requires c κs = search needs
 
 returns : tie.Need-returns
-returns c = c .days-in .ensures ∙ of-month _ _ (cc)
+returns c = c .days-in .ensures ∙ of-month _ _ (sym (c .before .before .is-month .ensures) ∙ c .before .if1 .taken)
 
 returns-2 : tie.Need-returns-2
-returns-2 c = of-none _ _ (cc)
+returns-2 c = of-none _ _ (sym (c .before .is-month .ensures) ∙ c .if1 .left)
 
 pub last-day-spec : {M : Type 1} → statement M
 last-day-spec = tie.close (tie.spec is-month-requires days-in-requires returns returns-2)

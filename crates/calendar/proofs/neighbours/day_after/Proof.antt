@@ -1,9 +1,7 @@
 -- `calendar::neighbours::day_after` meets its contract. Assumes nothing.
-use native.Mathlib.Omega.{arith}
 use borrow.Author.Needs.{needs}
-use mathlib.Core.Path.{_≡_, refl, ap}
-use mathlib.Core.Bool.{Bool}
-use Prim.Native.Nat.{ℕ, _+_, _-_, _<_, _≤_}
+use mathlib.Core.Path.{_≡_}
+use Prim.Native.Nat.{ℕ, _+_, _<_, _≤_}
 use borrow.Author.Tests.{lt-ltb, le-ltb}
 use Rattle.calendar.specs.declared.Date.{Date}
 use Rattle.calendar.specs.Calendar.{leapYear, daysIn, yearAfter, dayAfter}
@@ -32,20 +30,30 @@ days-in-requires c κs = search needs
 add-t5 : tie.Need-add-t5
 add-t5 c = search needs
 
+-- the length of the month that the code works out
+length-is : (c : tie.After-days-in) → let t = c .before .before .args .t in c .days-in .result ≡ daysIn (leapYear (t .year)) (t .month)
+length-is c = rw (← c .before .is-leap .ensures) (c .days-in .ensures)
+
 returns : tie.Need-returns
-returns c = in-month _ (c .before .before .before .days-in .result) (cc) (omega arith)
+returns c = let d = c .before .before .before in in-month _ (d .days-in .result) (length-is d) (c .before .if1 .taken)
 
 add-t6 : tie.Need-add-t6
 add-t6 c = search needs
 
 returns-2 : tie.Need-returns-2
-returns-2 c = in-year _ (c .before .before .before .before .before .days-in .result) (cc) (omega arith) (omega arith)
+returns-2 c =
+    let test = c .before .before .before in
+    let d = test .before .before in
+    in-year _ (d .days-in .result) (length-is d) (test .if1 .left) (c .before .if2 .taken)
 
 year-after-requires : tie.Need-year-after-requires
 year-after-requires c κs = search needs
 
 returns-3 : tie.Need-returns-3
-returns-3 c = new-year _ (c .before .before .before .before .before .days-in .result) (cc) _ (cc) (omega arith) (omega arith)
+returns-3 c =
+    let test = c .before .before .before in
+    let d = test .before .before in
+    new-year _ (d .days-in .result) (length-is d) _ (c .year-after .ensures) (test .if1 .left) (c .before .if2 .left)
 
 pub day-after-spec : {M : Type 1} → statement M
 day-after-spec =

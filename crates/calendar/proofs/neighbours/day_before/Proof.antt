@@ -1,9 +1,7 @@
 -- `calendar::neighbours::day_before` meets its contract. Assumes nothing.
-use native.Mathlib.Omega.{arith}
 use borrow.Author.Needs.{needs}
-use mathlib.Core.Path.{_≡_, refl, ap}
-use mathlib.Core.Bool.{Bool}
-use Prim.Native.Nat.{ℕ, _+_, _-_, _<_, _≤_}
+use mathlib.Core.Path.{_≡_}
+use Prim.Native.Nat.{ℕ, _-_, _<_, _≤_}
 use borrow.Author.Tests.{lt-ltb, le-ltb}
 use Rattle.calendar.specs.declared.Date.{Date}
 use Rattle.calendar.specs.Calendar.{leapYear, daysIn, dayBefore}
@@ -27,7 +25,7 @@ sub-t4 : tie.Need-sub-t4
 sub-t4 c = search needs
 
 returns : tie.Need-returns
-returns c = in-month _ (omega arith)
+returns c = in-month _ (c .before .if1 .taken)
 
 sub-month : tie.Need-sub-month
 sub-month c = search needs
@@ -39,13 +37,15 @@ days-in-requires : tie.Need-days-in-requires
 days-in-requires c κs = search needs
 
 returns-2 : tie.Need-returns-2
-returns-2 c = in-year _ _ (cc) (omega arith) (omega arith)
+returns-2 c =
+    let month = c .before .before .before in
+    in-year _ _ (rw (← c .before .is-leap .ensures) (c .days-in .ensures)) (month .before .before .if1 .left) (month .if2 .taken)
 
 year-before-requires : tie.Need-year-before-requires
 year-before-requires c κs = search needs
 
 returns-3 : tie.Need-returns-3
-returns-3 c = old-year _ _ (cc) (omega arith) (omega arith)
+returns-3 c = old-year _ _ (c .year-before .ensures) (c .before .before .before .if1 .left) (c .before .if2 .left)
 
 pub day-before-spec : {M : Type 1} → statement M
 day-before-spec =

@@ -28,10 +28,12 @@ refusal-of-requires : tie.Need-refusal-of-requires
 refusal-of-requires c κs = search needs
 
 returns : tie.Need-returns
-returns c = wrote (c .before .before .args .verdict) _ (cc)
+returns c = wrote (c .before .before .args .verdict) _ (c .enum-told .given .1)
 
 returns-2 : tie.Need-returns-2
-returns-2 c = refused (c .before .before .before .before .args .verdict) _ (c .before .before .verdict .given .0 .0) _ (cc) (cc)
+returns-2 c =
+    let bad = c .before .before in
+    refused (bad .before .before .args .verdict) _ (bad .verdict .given .0 .0) _ (bad .verdict .given .1) (c .refusal-of .ensures)
 
 pub written-spec : {M : Type 1} → statement M
 written-spec =

@@ -1,6 +1,6 @@
 -- `reading::stamps::stamp_at` meets its contract. Assumes nothing.
 use borrow.Author.Needs.{needs}
-use mathlib.Core.Path.{_≡_}
+use mathlib.Core.Path.{_≡_, sym, _∙_}
 use mathlib.Core.Bool.{true, false}
 use Prim.Native.Nat.{ℕ}
 use Rattle.reading.specs.declared.Utc.{Utc}
@@ -28,13 +28,21 @@ stamp-number-requires : tie.Need-stamp-number-requires
 stamp-number-requires c κs = search needs
 
 returns : tie.Need-returns
-returns c = stamped _ _ _ (cc) (cc)
+returns c =
+    let test = c .before in
+    let years = test .before .has-stamp .ensures in
+    let a = test .before .before .before .args in
+    stamped (a .utc) (a .second) _ (c .stamp-number .ensures) (sym years ∙ test .if1 .taken)
 
 refusal-of-requires : tie.Need-refusal-of-requires
 refusal-of-requires c κs = search needs
 
 returns-2 : tie.Need-returns-2
-returns-2 c = outside _ _ _ (cc) (cc)
+returns-2 c =
+    let test = c .before in
+    let years = test .before .has-stamp .ensures in
+    let a = test .before .before .before .args in
+    outside (a .utc) (a .second) _ (c .refusal-of .ensures) (sym years ∙ test .if1 .left)
 
 pub stamp-at-spec : {M : Type 1} → statement M
 stamp-at-spec =

@@ -1,6 +1,6 @@
 -- `reading::stamps::stamp_of` meets its contract. Assumes nothing.
 use borrow.Author.Needs.{needs}
-use mathlib.Core.Path.{_≡_, ap, _∙_}
+use mathlib.Core.Path.{_≡_, sym, _∙_}
 use Prim.Native.Nat.{ℕ}
 use Rattle.reading.specs.declared.Reading.{Reading}
 use Rattle.reading.specs.declared.Refusal.{Refusal}
@@ -44,10 +44,16 @@ stamp-at-requires : tie.Need-stamp-at-requires
 stamp-at-requires c κs = search needs
 
 returns : tie.Need-returns
-returns c = refused _ (c .before .before .fault .given .0 .0) _ (cc) (cc)
+returns c =
+    let bad = c .before .before in
+    let checks = bad .before .before .checked .ensures in
+    refused _ (bad .fault .given .0 .0) _ (sym checks ∙ bad .fault .given .1) (c .refusal-of .ensures)
 
 returns-2 : tie.Need-returns-2
-returns-2 c = good _ _ (cc) (cc)
+returns-2 c =
+    let fine = c .before .before in
+    let checks = fine .before .before .checked .ensures in
+    good _ _ (sym checks ∙ fine .enum-told .given .1) (rw (← c .before .utc-of .ensures) (c .stamp-at .ensures))
 
 pub stamp-of-spec : {M : Type 1} → statement M
 stamp-of-spec =

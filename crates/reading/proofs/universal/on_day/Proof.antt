@@ -27,13 +27,13 @@ day-before-requires : tie.Need-day-before-requires
 day-before-requires c κs = search needs
 
 returns : tie.Need-returns
-returns c = the-day-before _ _ _ (cc) (omega arith)
+returns c = the-day-before _ _ _ (c .day-before .ensures) (c .before .if1 .taken)
 
 mul-if2 : tie.Need-mul-if2
 mul-if2 c = search needs
 
 returns-2 : tie.Need-returns-2
-returns-2 c = the-day _ _ (omega arith) (omega arith)
+returns-2 c = the-day _ _ (c .before .if1 .left) (c .if2 .taken)
 
 day-after-requires : tie.Need-day-after-requires
 day-after-requires c κs = search needs
@@ -45,7 +45,7 @@ sub-t8 : tie.Need-sub-t8
 sub-t8 c = search needs
 
 returns-3 : tie.Need-returns-3
-returns-3 c = the-day-after _ _ _ (cc) (omega arith)
+returns-3 c = the-day-after _ _ _ (c .day-after .ensures) (c .before .if2 .left)
 
 pub on-day-spec : {M : Type 1} → statement M
 on-day-spec =

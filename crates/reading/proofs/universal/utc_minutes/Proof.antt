@@ -16,17 +16,17 @@ add-local-2 c = search needs
 west-requires : tie.Need-west-requires
 west-requires c κs = search needs
 
-mul-less : tie.Need-mul-less
-mul-less c = search needs
-
-add-less : tie.Need-add-less
-add-less c = search needs
+mul-behind : tie.Need-mul-behind
+mul-behind c = search needs
 
 east-requires : tie.Need-east-requires
 east-requires c κs = search needs
 
-mul-less-2 : tie.Need-mul-less-2
-mul-less-2 c = search needs
+mul-ahead : tie.Need-mul-ahead
+mul-ahead c = search needs
+
+add-less : tie.Need-add-less
+add-less c = search needs
 
 less-requires : tie.Need-less-requires
 less-requires c κs = search needs
@@ -43,9 +43,9 @@ utc-minutes-spec =
     add-local
     add-local-2
     west-requires
-    mul-less
-    add-less
+    mul-behind
     east-requires
-    mul-less-2
+    mul-ahead
+    add-less
     less-requires
     returns)
