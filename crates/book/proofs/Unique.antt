@@ -30,11 +30,11 @@ use Rattle.book.proofs.body.record_of.Reads as record-of-reads
 use Rattle.book.proofs.Walk.over as over
 use Rattle.book.proofs.Walk.turn as turn
 
-pub record-one : Coincide 1 record-kinds.ps record-kinds.r record-reads.Post
-record-one κs a x y e f p q = cc
+pub record-at-one : Coincide 1 record-kinds.ps record-kinds.r record-reads.Post
+record-at-one κs a x y e f p q = cc
 
-pub next-one : Coincide 1 next-kinds.ps next-kinds.r next-reads.Post
-next-one κs a x y e f p q = cc
+pub next-at-one : Coincide 1 next-kinds.ps next-kinds.r next-reads.Post
+next-at-one κs a x y e f p q = cc
 
 pub first-one : Coincide 1 first-kinds.ps first-kinds.r first-reads.Post
 first-one κs a x y e f p q = cc

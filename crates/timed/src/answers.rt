@@ -34,7 +34,7 @@ fn of_date(r: Reading) -> u64 {
     three(r.year as u64, r.month as u64, r.day as u64)
 }
 
-pub(crate) fn of_reading(r: Reading) -> u64 {
+fn of_reading(r: Reading) -> u64 {
     three(of_date(r), of_clock(r), of_flags(r))
 }
 

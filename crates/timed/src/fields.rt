@@ -1,5 +1,4 @@
 // What a writer's record holds: a reading in its first twelve bytes, what stands beside it, and the room that is lent.
-use reading::AddedToLocal;
 use reading::LocalMinusUtc;
 use reading::Reading;
 ghost use Prim.Native.Nat.{_≤_};
@@ -12,12 +11,12 @@ fn two(low: u8, high: u8) -> u16 {
     (low as u16) + 256 * (high as u16)
 }
 
-// An offset as a signed byte: from 128 on it lies west, and its opposite is added to local time.
+// An offset as a signed byte, in two's complement: from 128 on it stands for 256 less, the bits of 255 - b turned over.
 fn offset(b: u8) -> LocalMinusUtc {
     if b < 128 {
         return LocalMinusUtc(b as i8);
     }
-    AddedToLocal((256 - (b as u16)) as i16).local()
+    LocalMinusUtc(!((255 - b) as i8))
 }
 
 pub(crate) fn blank() -> Reading {

@@ -1,12 +1,11 @@
 // What a case's payload holds: bytes at places, and a reading in its first twelve.
-use reading::AddedToLocal;
 use reading::LocalMinusUtc;
 use reading::Reading;
 ghost use mathlib.Core.Path.{_≡_};
 ghost use Rattle.vectors.specs.Payload.{byteAt, flagAt, pairAt, signed, readingIn};
 
 // The byte at a place; past the end it is 0.
-pub fn byte(payload: &[u8], at: usize) -> u8
+pub(crate) fn byte(payload: &[u8], at: usize) -> u8
     ensures { λ r. ⌜ r ≡ byteAt (now (payload .entry)) at ⌝ }
 {
     if at < payload.len() {
@@ -15,14 +14,14 @@ pub fn byte(payload: &[u8], at: usize) -> u8
     0
 }
 
-pub fn flag(payload: &[u8], at: usize) -> bool
+fn flag(payload: &[u8], at: usize) -> bool
     ensures { λ r. ⌜ r ≡ flagAt (now (payload .entry)) at ⌝ }
 {
     byte(payload, at) != 0
 }
 
 // Two bytes, the lower first.
-pub fn pair(payload: &[u8], at: usize) -> u16
+pub(crate) fn pair(payload: &[u8], at: usize) -> u16
     ensures { λ r. ⌜ r ≡ pairAt (now (payload .entry)) at ⌝ }
 {
     if at < payload.len() {
@@ -31,17 +30,17 @@ pub fn pair(payload: &[u8], at: usize) -> u16
     0
 }
 
-// An offset as a signed byte: from 128 on it lies west, and its opposite is added to local time.
+// An offset as a signed byte, in two's complement: from 128 on it stands for 256 less, the bits of 255 - b turned over.
 fn offset(b: u8) -> LocalMinusUtc
     ensures { λ r. ⌜ r ≡ record { 0 = signed b } ⌝ }
 {
     if b < 128 {
         return LocalMinusUtc(b as i8);
     }
-    AddedToLocal((256 - (b as u16)) as i16).local()
+    LocalMinusUtc(!((255 - b) as i8))
 }
 
-pub fn reading_in(payload: &[u8]) -> Reading
+pub(crate) fn reading_in(payload: &[u8]) -> Reading
     ensures { λ r. ⌜ r ≡ readingIn (now (payload .entry)) ⌝ }
 {
     Reading {

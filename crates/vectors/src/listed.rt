@@ -1,14 +1,27 @@
 // The listing of a book on one line, a bar for each line feed.
-use super::line::put;
-use super::line::swapped;
+use super::print::print_word;
 use reading::Written;
-ghost use Rattle.vectors.specs.Line.{Kept};
 
-pub fn listed(out: &mut [u8], book: &[u8]) -> usize
-    ensures { λ r. ⌜ Kept r (now (out .entry)) (now (out .exit)) ⌝ }
-{
-    match listing::list(book, out) {
-        Written::Length(n) => swapped(out, 0, n, b'\n', b'|'),
-        Written::No(_) => put(out, 0, b"bad"),
+fn barred(byte: u8) -> u8 {
+    if byte == b'\n' {
+        return b'|';
+    }
+    byte
+}
+
+// As much of a page as a listing takes.
+fn print_page(page: &mut [u8], end: usize) {
+    let mut i = 0;
+    while i < page.len() && i < end {
+        page[i] = barred(page[i]);
+        i += 1;
+    }
+    print_word(&page[..i])
+}
+
+pub(crate) fn listed(page: &mut [u8], book: &[u8]) {
+    match listing::list(book, page) {
+        Written::Length(n) => print_page(page, n),
+        Written::No(_) => print_word(b"bad"),
     }
 }

@@ -1,5 +1,5 @@
-// Answers the cases that stand on standard input, a line each, with the proved functions. second/README.md says what a
-// case is; what this prints is compared with what the independent second program answers.
+// Answers the cases that stand on standard input, a line each, with the proved functions, and prints as it goes.
+// second/README.md says what a case is; what this prints is compared with what the independent second program answers.
 ghost use mathlib.Core.Path.{_≡_};
 ghost use lib.ListN.{length};
 
@@ -7,37 +7,40 @@ mod answers;
 mod changes;
 mod fed;
 mod fields;
-mod line;
 mod listed;
+mod print;
 mod readers;
 mod stamped;
 mod table;
 mod writers;
 
-// Reads a case, writes its answer, and says whether to go on. A case that the end of the input cuts off is the last.
+// A case that the end of the input cuts off, where there is a byte of it, is the last.
+fn cut_off(came: usize) -> bool {
+    if 0 < came {
+        print::print_word(b"bad\n");
+    }
+    false
+}
+
+// Reads a case, prints its line, and says whether to go on.
 fn one_case(space: &mut [u8], page: &mut [u8]) -> bool {
     let mut head = [0u8; 3];
     let got = io::read_full(0, &mut head);
-    if got == 0 {
-        return false;
-    }
     if got < 3 {
-        io::write_all(1, b"bad\n");
-        return false;
+        return cut_off(got);
     }
     let n = fields::pair(&head, 1) as isize;
     let whole = io::count(n, space);
     let came = io::read_full(0, &mut space[..whole]);
     if came < whole {
-        io::write_all(1, b"bad\n");
-        return false;
+        return cut_off(got);
     }
     let part = io::count(n, space);
-    let end = answers::answer(page, head[0], &space[..part]);
-    io::write_all(1, &page[..end]) & io::write_all(1, b"\n")
+    answers::answer(page, head[0], &space[..part]);
+    io::write_all(1, b"\n")
 }
 
-// A line has room for every listing.
+// A page has room for every listing.
 fn page_for_listing() -> [u8; 262144]
     ensures { λ r. ⌜ 262144 ≡ length r ⌝ }
 {

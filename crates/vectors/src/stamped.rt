@@ -1,32 +1,27 @@
 // A refusal's words, and the stamp of a reading.
 use super::fields::reading_in;
-use super::line::put;
-use super::line::put_number;
+use super::print::print_number;
+use super::print::print_word;
 use reading::Refusal;
 use reading::Stamp;
 use reading::stamps::stamp_of;
-ghost use Rattle.vectors.specs.Line.{Kept};
 
-pub fn refused(out: &mut [u8], at: usize, r: Refusal) -> usize
-    ensures { λ r. ⌜ Kept r (now (out .entry)) (now (out .exit)) ⌝ }
-{
-    let a = put(out, at, b"no ");
-    let b = put_number(out, a, r.code as u64);
-    let c = put(out, b, b" ");
-    put_number(out, c, r.place as u64)
+// The mark stands between the words.
+pub(crate) fn print_refused(mark: u8, r: Refusal) {
+    print_word(b"no");
+    print_number(mark, r.code as u64);
+    print_number(mark, r.place as u64)
 }
 
-pub fn stamped(out: &mut [u8], payload: &[u8]) -> usize
-    ensures { λ r. ⌜ Kept r (now (out .entry)) (now (out .exit)) ⌝ }
-{
+pub(crate) fn stamped(payload: &[u8]) {
     if payload.len() < 12 {
-        return put(out, 0, b"bad");
+        return print_word(b"bad");
     }
     match stamp_of(reading_in(payload)) {
         Stamp::At(n) => {
-            let a = put(out, 0, b"at ");
-            put_number(out, a, n)
+            print_word(b"at");
+            print_number(b' ', n)
         }
-        Stamp::Refused(r) => refused(out, 0, r),
+        Stamp::Refused(r) => print_refused(b' ', r),
     }
 }

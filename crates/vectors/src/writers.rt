@@ -1,11 +1,11 @@
-// What the writers answer, and the whole lent buffer afterwards.
+// What the writers and the bridge answer, and the whole lent buffer afterwards.
 use super::fields::byte;
 use super::fields::pair;
 use super::fields::reading_in;
-use super::line::put;
-use super::line::put_hex;
-use super::line::put_number;
-use super::stamped::refused;
+use super::print::print_hex;
+use super::print::print_number;
+use super::print::print_word;
+use super::stamped::print_refused;
 use bridge::Kind;
 use bridge::bridge;
 use dcf77::Dcf77;
@@ -13,70 +13,13 @@ use erlangen::Erlangen;
 use irig::Ieee1344;
 use meinberg::Meinberg;
 use reading::Written;
-ghost use Rattle.vectors.specs.Line.{Kept};
 
-pub fn put_written(out: &mut [u8], answer: Written, buffer: &[u8]) -> usize
-    ensures { λ r. ⌜ Kept r (now (out .entry)) (now (out .exit)) ⌝ }
-{
-    match answer {
-        Written::Length(n) => {
-            let a = put(out, 0, b"wrote ");
-            let b = put_number(out, a, n as u64);
-            let c = put(out, b, b" ");
-            put_hex(out, c, buffer)
-        }
-        Written::No(refusal) => {
-            let a = refused(out, 0, refusal);
-            let b = put(out, a, b" ");
-            put_hex(out, b, buffer)
-        }
-    }
-}
-
-// What stands behind the reading and its beside: the position part.
-fn rest(payload: &[u8]) -> &[u8] {
-    if payload.len() < 15 {
+// What stands behind the first bytes of a payload.
+fn behind(payload: &[u8], first: usize) -> &[u8] {
+    if payload.len() < first {
         return &payload[0..0];
     }
-    &payload[15..]
-}
-
-fn write_by(format: u8, payload: &[u8], buffer: &mut [u8]) -> Written {
-    let r = reading_in(payload);
-    let beside = pair(payload, 12);
-    match format {
-        5 => Meinberg::write(r, beside != 0, buffer),
-        6 => Erlangen::write(r, beside != 0, rest(payload), buffer),
-        7 => Ieee1344::write(r, buffer),
-        _ => Dcf77::write(r, beside, buffer),
-    }
-}
-
-// Writes into as many bytes of the buffer as the payload says.
-fn write_part(format: u8, payload: &[u8], buffer: &mut [u8]) -> Written {
-    let room = io::count(byte(payload, 14) as isize, buffer);
-    write_by(format, payload, &mut buffer[..room])
-}
-
-// As many bytes of the buffer as the writer was lent.
-fn put_part(out: &mut [u8], answer: Written, lent: u8, buffer: &[u8]) -> usize
-    ensures { λ r. ⌜ Kept r (now (out .entry)) (now (out .exit)) ⌝ }
-{
-    let room = io::count(lent as isize, buffer);
-    put_written(out, answer, &buffer[..room])
-}
-
-// 5 Meinberg, 6 Uni Erlangen, 7 IEEE 1344, 8 DCF77; each byte of the buffer was 165 before.
-pub fn written(out: &mut [u8], format: u8, payload: &[u8]) -> usize
-    ensures { λ r. ⌜ Kept r (now (out .entry)) (now (out .exit)) ⌝ }
-{
-    if payload.len() < 15 {
-        return put(out, 0, b"bad");
-    }
-    let mut space = [165u8; 256];
-    let buffer: &mut [u8] = &mut space;
-    let answer = write_part(format, payload, buffer);
-    put_part(out, answer, byte(payload, 14), buffer)
+    &payload[first..]
 }
 
 fn kind_of(payload: &[u8]) -> Kind {
@@ -86,29 +29,71 @@ fn kind_of(payload: &[u8]) -> Kind {
     Kind::Erlangen
 }
 
-// What stands behind the kind and the room.
-fn string_in(payload: &[u8]) -> &[u8] {
-    if payload.len() < 2 {
-        return &payload[0..0];
+// 5 Meinberg, 6 Uni Erlangen, 7 IEEE 1344, 8 DCF77, from a reading, what stands beside it and the position part.
+fn write_by(op: u8, payload: &[u8], buffer: &mut [u8]) -> Written {
+    let r = reading_in(payload);
+    let beside = pair(payload, 12);
+    match op {
+        5 => Meinberg::write(r, beside != 0, buffer),
+        6 => Erlangen::write(r, beside != 0, behind(payload, 15), buffer),
+        7 => Ieee1344::write(r, buffer),
+        _ => Dcf77::write(r, beside, buffer),
     }
-    &payload[2..]
 }
 
-fn bridge_part(payload: &[u8], buffer: &mut [u8]) -> Written {
-    let room = io::count(byte(payload, 1) as isize, buffer);
-    bridge(kind_of(payload), string_in(payload), &mut buffer[..room])
+// 10 is the bridge: a kind, 1 Meinberg or 2 Uni Erlangen, the room and the string.
+fn write_all_by(op: u8, payload: &[u8], buffer: &mut [u8]) -> Written {
+    if op == 10 {
+        return bridge(kind_of(payload), behind(payload, 2), buffer);
+    }
+    write_by(op, payload, buffer)
 }
 
-// The bridge: a kind, 1 Meinberg or 2 Uni Erlangen, the buffer's length, and the string.
-pub fn bridged(out: &mut [u8], payload: &[u8]) -> usize
-    ensures { λ r. ⌜ Kept r (now (out .entry)) (now (out .exit)) ⌝ }
-{
-    let kind = byte(payload, 0);
-    if (payload.len() < 2) | (kind < 1) | (2 < kind) {
-        return put(out, 0, b"bad");
+// Where a payload says how many bytes are lent.
+fn room_in(op: u8, payload: &[u8]) -> u8 {
+    if op == 10 {
+        return byte(payload, 1);
     }
-    let mut space = [165u8; 256];
-    let buffer: &mut [u8] = &mut space;
-    let answer = bridge_part(payload, buffer);
-    put_part(out, answer, byte(payload, 1), buffer)
+    byte(payload, 14)
+}
+
+fn is_whole(op: u8, payload: &[u8]) -> bool {
+    if op == 10 {
+        let kind = byte(payload, 0);
+        return (2 <= payload.len()) & (1 <= kind) & (kind <= 2);
+    }
+    15 <= payload.len()
+}
+
+fn told(answer: Written) {
+    match answer {
+        Written::Length(n) => {
+            print_word(b"wrote");
+            print_number(b' ', n as u64)
+        }
+        Written::No(refusal) => print_refused(b' ', refusal),
+    }
+}
+
+fn told_with(answer: Written, buffer: &[u8]) {
+    told(answer);
+    print_word(b" ");
+    print_hex(buffer)
+}
+
+// Writes into as many bytes of the buffer as the payload says.
+fn write_part(op: u8, payload: &[u8], buffer: &mut [u8]) {
+    let room = io::count(room_in(op, payload) as isize, buffer);
+    let answer = write_all_by(op, payload, &mut buffer[..room]);
+    let lent = io::count(room_in(op, payload) as isize, buffer);
+    told_with(answer, &buffer[..lent])
+}
+
+// Each byte of the buffer was 165 before.
+pub(crate) fn written(op: u8, payload: &[u8]) {
+    if is_whole(op, payload) {
+        let mut space = [165u8; 256];
+        return write_part(op, payload, &mut space);
+    }
+    print_word(b"bad")
 }

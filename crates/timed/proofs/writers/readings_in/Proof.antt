@@ -1,4 +1,5 @@
 -- `timed::writers::readings_in` is safe and ends: every turn ends further on in the records. Assumes nothing.
+use native.Mathlib.Omega.{arith}
 use borrow.Author.Needs.{needs}
 use mathlib.Core.Path.{_≡_}
 use Prim.Native.Nat.{_-_, _≤_}
@@ -13,25 +14,25 @@ abbrev μ-loop : tie.MeasureT-loop
 μ-loop size records readings₀ n₀ at₀ readings n at = length records - at
 
 blank-requires : tie.Need-blank-requires Inv-loop μ-loop
-blank-requires c κs = search needs
+blank-requires c κs = tt
 
 loop-holds : tie.Need-loop-holds Inv-loop μ-loop
 loop-holds c = search needs
 
 end-of-requires : tie.Need-end-of-requires Inv-loop μ-loop
-end-of-requires c κs = search needs
+end-of-requires c κs = omega arith
 
 sub-reading-in : tie.Need-sub-reading-in Inv-loop μ-loop
-sub-reading-in c = search needs
+sub-reading-in c = omega arith
 
 part-reading-in-start : tie.Need-part-reading-in-start Inv-loop μ-loop
-part-reading-in-start c = search needs
+part-reading-in-start c = omega arith
 
 part-reading-in-end : tie.Need-part-reading-in-end Inv-loop μ-loop
-part-reading-in-end c = search needs
+part-reading-in-end c = omega arith
 
 reading-in-requires : tie.Need-reading-in-requires Inv-loop μ-loop
-reading-in-requires c κs = search needs
+reading-in-requires c κs = tt
 
 mul-readings : tie.Need-mul-readings Inv-loop μ-loop
 mul-readings c = search needs
@@ -40,19 +41,19 @@ array-set-from-readings : tie.Need-array-set-from-readings Inv-loop μ-loop
 array-set-from-readings c = search needs
 
 add-n : tie.Need-add-n Inv-loop μ-loop
-add-n c = search needs
+add-n c = omega arith
 
 loop-less : tie.Need-loop-less Inv-loop μ-loop
-loop-less c = search needs
+loop-less c = omega arith
 
 loop-again : tie.Need-loop-again Inv-loop μ-loop
 loop-again c = search needs
 
 returns : tie.Need-returns Inv-loop μ-loop
-returns c = search needs
+returns c = tt
 
 returns-2 : tie.Need-returns-2 Inv-loop μ-loop
-returns-2 c = search needs
+returns-2 c = tt
 
 pub readings-in-spec : {M : Type 1} → statement M
 readings-in-spec =

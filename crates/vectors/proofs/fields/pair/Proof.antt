@@ -40,7 +40,7 @@ add-result : tie.Need-add-result
 add-result c = search needs
 
 returns : tie.Need-returns
-returns c = both _ _ _ _ (cc) (cc)
+returns c = both _ _ _ _ (c .before .byte .ensures) (c .byte2 .ensures)
 
 returns-2 : tie.Need-returns-2
 returns-2 c = past (now (c .before .before .args .payload)) (c .before .before .args .at) (c .if1 .left)

@@ -1,30 +1,27 @@
--- `vectors::table::tabled` meets its contract: the line keeps within its buffer at every turn. Assumes nothing.
+-- `vectors::table::tabled` is safe and ends: the measure is what is left of the hundred places. Assumes nothing.
 use native.Mathlib.Omega.{arith}
 use borrow.Author.Needs.{needs}
-use mathlib.Core.Path.{_≡_}
 use Prim.Native.Nat.{_-_, _≤_}
-use lib.ListN.{length}
-use Rattle.vectors.specs.Line.{Kept}
 use Rattle.vectors.proofs.table.tabled.Statement.{statement}
 use Rattle.vectors.proofs.table.tabled.Tie as tie
 
 abbrev Inv-loop : tie.InvT-loop
-Inv-loop out₀ end₀ i₀ out end i = Kept end out₀ out × (i ≤ 100)
+Inv-loop i₀ i = i ≤ 100
 
 abbrev μ-loop : tie.MeasureT-loop
-μ-loop out₀ end₀ i₀ out end i = 100 - i
+μ-loop i₀ i = 100 - i
 
-slice-aggregate-put : tie.Need-slice-aggregate-put Inv-loop μ-loop
-slice-aggregate-put c = search needs
+slice-aggregate-print-word : tie.Need-slice-aggregate-print-word Inv-loop μ-loop
+slice-aggregate-print-word c = search needs
 
-put-requires : tie.Need-put-requires Inv-loop μ-loop
-put-requires c κs = search needs
+print-word-requires : tie.Need-print-word-requires Inv-loop μ-loop
+print-word-requires c κs = tt
 
 loop-holds : tie.Need-loop-holds Inv-loop μ-loop
 loop-holds c = search needs
 
-put-pulse-requires : tie.Need-put-pulse-requires Inv-loop μ-loop
-put-pulse-requires c κs = search needs
+pulse-requires : tie.Need-pulse-requires Inv-loop μ-loop
+pulse-requires c κs = tt
 
 add-i : tie.Need-add-i Inv-loop μ-loop
 add-i c = omega arith
@@ -35,11 +32,8 @@ loop-less c = omega arith
 loop-again : tie.Need-loop-again Inv-loop μ-loop
 loop-again c = search needs
 
-same-length : tie.Need-same-length Inv-loop μ-loop
-same-length c = search needs
-
 returns : tie.Need-returns Inv-loop μ-loop
-returns c = search needs
+returns c = tt
 
 pub tabled-spec : {M : Type 1} → statement M
 tabled-spec =
@@ -47,12 +41,11 @@ tabled-spec =
     (tie.spec
     Inv-loop
     μ-loop
-    slice-aggregate-put
-    put-requires
+    slice-aggregate-print-word
+    print-word-requires
     loop-holds
-    put-pulse-requires
+    pulse-requires
     add-i
     loop-less
     loop-again
-    same-length
     returns)
