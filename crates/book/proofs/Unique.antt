@@ -39,8 +39,8 @@ next-at-one κs a x y e f p q = cc
 pub first-one : Coincide 1 first-kinds.ps first-kinds.r first-reads.Post
 first-one κs a x y e f p q = cc
 
-pub stamping-one : Coincide 0 stamping-kinds.ps stamping-kinds.r stamping-reads.Post
-stamping-one κs a x y e f p q = cc
+pub stamping-of-one : Coincide 0 stamping-kinds.ps stamping-kinds.r stamping-reads.Post
+stamping-of-one κs a x y e f p q = cc
 
 -- For a function that is proved by hand rattle reads off no `Post`: its `ensures` is a fact of the result alone, in every
 -- model, and any two results of which the fact holds coincide.

@@ -9,7 +9,8 @@ use native.Mathlib.Omega.{arith}
 use lib.Dec.{T, eqb, eqb→eq, leb, leb→le, le→leb}
 use lib.ListN.{List·getD-eq-default}
 use borrow.Author.Tests.{le-leb, lt-leb, leb-true}
-use Rattle.laws.proofs.Tested.{below, at}
+use Rattle.laws.specs.Tests.{below}
+use Rattle.laws.proofs.Tested.{at}
 use Rattle.laws.proofs.Bools.{where-so, then}
 use Rattle.calendar.specs.declared.Date.{Date}
 use Rattle.calendar.specs.Calendar.{leapYear, daysIn, daysBefore, yearLength, isMonth, lastDay, isDay, isDate}

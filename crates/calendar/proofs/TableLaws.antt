@@ -8,7 +8,8 @@ use lib.Dec.{T, eqb, eqb→eq, leb, leb→le, le→leb, ltb, ltb→lt}
 use lib.ListN.{getD}
 use borrow.Author.Tests.{leb-true, le-leb, lt-ltb, le-ltb}
 use Rattle.laws.proofs.Bools.{both, holds, where-so, then}
-use Rattle.laws.proofs.Tested.{below, at, and-left, and-right}
+use Rattle.laws.specs.Tests.{below}
+use Rattle.laws.proofs.Tested.{at, and-left, and-right}
 use Rattle.calendar.specs.declared.Date.{Date}
 use Rattle.calendar.specs.declared.MonthDay.{MonthDay}
 use Rattle.calendar.specs.Calendar.{leapYear, daysIn, daysBefore, yearLength, dayOfYear, monthUpTo, inYear, monthDay}

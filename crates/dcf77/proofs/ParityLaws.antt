@@ -5,16 +5,23 @@ use mathlib.Core.Path.{_≡_, refl, sym, ap, _∙_}
 use Prim.Native.Nat.{ℕ, _+_, _-_, _%_, _<_, _≤_}
 use native.Mathlib.Omega.{arith}
 use borrow.Author.Tests.{ne-eqb, eqb-false, leb-true}
+use lib.Dec.{eqb}
 use lib.ListN.{length, getD, set, drop, length-append, length-set}
-use Rattle.pulses.specs.Row.{groups, row, fitsIn, laid, onesFrom, onesOf}
+use Rattle.pulses.specs.Row.{groups, row, fitsIn, laid, onesFrom, onesOf, sumFrom}
 use Rattle.pulses.proofs.RowLaws.{length-row, enough, laid-set}
-use Rattle.pulses.proofs.OnesLaws.{ones-of-part, ones-front}
+use Rattle.pulses.proofs.OnesLaws.{ones-of-part, ones-front, parity-of-sum}
 use Rattle.dcf77_table.specs.Table.{minuteParity, hourParity, dateParity, minuteMarks}
 use Rattle.dcf77_table.proofs.TableLaws.{long-enough}
 use Rattle.dcf77_table.proofs.PartLaws.{Part, SamePlain, part-same, part-ones, part-alone, minute-part, hour-part, date-part}
 use Rattle.dcf77.specs.Reader.{odd}
 use Rattle.dcf77.specs.Forms.{minutePlace, minuteParityPlace, hourPlace, hourParityPlace, dayPlace, dateParityPlace}
 use Rattle.dcf77.specs.Writer.{evened, withParity}
+
+-- the ones are odd in number exactly where the sum of the marks is odd
+pub odd-by-sum : (a b : ℕ) (s : List ℕ) → a ≤ b → b < length s → b < 126 → odd a b s ≡ eqb (sumFrom a (b + 1 - a) s % 2) 1
+unfolding odd
+odd-by-sum a b s h k l =
+    rw (ones-of-part a (b + 1 - a) s (omega arith) (omega arith)) (ap (λ (n : ℕ). eqb n 1) (parity-of-sum a (b + 1 - a) s))
 
 module _ {a b g : ℕ} (p : Part a b g) where
   evened-is : (v : List ℕ) → evened a b (row (minuteMarks false) v) ≡ onesFrom a (b - a) (row (minuteMarks false) v) % 2

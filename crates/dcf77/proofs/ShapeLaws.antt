@@ -8,7 +8,8 @@ use borrow.Author.Tests.{le-ltb}
 use lib.Dec.{T, eqb, ltb}
 use lib.ListN.{getD, take, drop, drop-of-length-le}
 use lib.Seq.{split-at}
-use Rattle.laws.proofs.Tested.{below, at}
+use Rattle.laws.specs.Tests.{below}
+use Rattle.laws.proofs.Tested.{at}
 use Rattle.reading.specs.declared.Reading.{Reading}
 use Rattle.pulses.specs.Row.{marks, firstData, groupOf, weightOf, digitOf, pulseOf, pulseFor}
 use Rattle.pulses.proofs.EntryLaws.{digit-small}

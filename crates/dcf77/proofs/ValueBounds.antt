@@ -8,7 +8,8 @@ use native.Mathlib.Omega.{arith}
 use lib.Dec.{T, leb, leb→le}
 use lib.ListN.{getD, set}
 use lib.Seq.{getD-set-other}
-use Rattle.laws.proofs.Tested.{below, at}
+use Rattle.laws.specs.Tests.{below}
+use Rattle.laws.proofs.Tested.{at}
 use Rattle.calendar.specs.Calendar.{leapYear, daysIn, isDate}
 use Rattle.calendar.proofs.DateLaws.{real, month-of}
 use Rattle.calendar.proofs.WeekdayLaws.{weekday-range}

@@ -9,7 +9,8 @@ use lib.Dec.{T, eqb, ltb, eqb-refl}
 use lib.IntN.{ℤ, pos, negsuc}
 use lib.ListN.{length, drop}
 use Rattle.laws.proofs.Bools.{both, holds, is-true}
-use Rattle.laws.proofs.Signed.{same, same-is}
+use Rattle.laws.specs.Tests.{same}
+use Rattle.laws.proofs.Signed.{same-is}
 use Rattle.reading.specs.declared.Reading.{Reading}
 use Rattle.reading.specs.declared.Verdict.{Verdict}
 use Rattle.reading.specs.declared.Verdict.the-variants.{Good, Bad}

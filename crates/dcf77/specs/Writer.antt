@@ -4,7 +4,7 @@ use mathlib.Core.List.{List, [], _∷_}
 use Prim.Native.Nat.{ℕ, _-_, _/_, _%_}
 use lib.Dec.{eqb, ltb}
 use lib.ListN.{set}
-use Rattle.laws.proofs.Signed.{same}
+use Rattle.laws.specs.Tests.{same}
 use Rattle.calendar.specs.Calendar.{weekdayOf}
 use Rattle.reading.specs.declared.Reading.{Reading}
 use Rattle.reading.specs.declared.Verdict.{Verdict}

@@ -9,18 +9,17 @@ use super::rules::places;
 use super::rules::week_of;
 use super::rules::zone_of;
 use reading::Fault;
-use reading::LocalMinusUtc;
 use reading::Reading;
 use reading::Verdict;
 use reading::Written;
 use reading::checks::checked;
 use reading::faults::refusal_of;
 use reading::faults::written;
+use reading::offsets::same_offset;
 ghost use mathlib.Core.Path.{_≡_};
 ghost use mathlib.Core.Bool.{false, cond};
 ghost use Prim.Native.Nat.{_≤_};
 ghost use lib.ListN.{length};
-ghost use Rattle.laws.proofs.Signed.{same};
 ghost use Rattle.pulses.specs.Row.{row, laid};
 ghost use Rattle.reading.specs.Years.{base};
 ghost use Rattle.reading.specs.Writing.{writtenOf, filled};
@@ -117,17 +116,10 @@ fn checked_with(r: Reading, head: u16) -> Verdict
     checked(r)
 }
 
-// An offset lies west or east of UTC, so that both amounts tell it.
-fn same(a: LocalMinusUtc, b: LocalMinusUtc) -> bool
-    ensures { λ r. ⌜ r ≡ same (a .0) (b .0) ⌝ }
-{
-    (a.west() == b.west()) & (a.east() == b.east())
-}
-
 fn not_carried(r: Reading) -> bool
     ensures { λ b. ⌜ b ≡ notCarried r ⌝ }
 {
-    let zone = same(r.offset, offset_in(r.summer));
+    let zone = same_offset(r.offset, offset_in(r.summer));
     !((r.second == 0) & ((r.quality == 0) & zone))
 }
 

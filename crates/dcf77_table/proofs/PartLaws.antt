@@ -8,7 +8,8 @@ use borrow.Author.Tests.{eq-eqb}
 use lib.Dec.{T, leb, eqb, eqb→eq}
 use lib.ListN.{length, getD}
 use Rattle.laws.proofs.Bools.{where-so, then, holds}
-use Rattle.laws.proofs.Tested.{below, at}
+use Rattle.laws.specs.Tests.{below}
+use Rattle.laws.proofs.Tested.{at}
 use Rattle.pulses.specs.Row.{groups, firstData, groupOf, weightOf, pulseFor, row, onesFrom}
 use Rattle.pulses.proofs.EntryLaws.{group-small, pulse-for-same, pulse-data}
 use Rattle.pulses.proofs.RowLaws.{Alone, pulse-at}

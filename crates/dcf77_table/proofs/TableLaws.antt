@@ -7,7 +7,8 @@ use native.Mathlib.Omega.{arith}
 use lib.Dec.{T, leb, ltb, eqb, eqb→eq, le→leb}
 use lib.ListN.{length, getD, List·getD-append}
 use Rattle.laws.proofs.Bools.{where-so, then}
-use Rattle.laws.proofs.Tested.{below, at}
+use Rattle.laws.specs.Tests.{below}
+use Rattle.laws.proofs.Tested.{at}
 use Rattle.pulses.specs.Row.{groups, firstData, groupOf, weightOf, sound, doubling, pulsesIn}
 use Rattle.dcf77_table.specs.Table.{sharedMarks, lastMarks, minuteMarks}
 use Rattle.dcf77_table.specs.Values.{widths}

@@ -11,7 +11,8 @@ use lib.Dec.{T, leb, ltb, eqb, eqb→eq, leb→le, le→leb}
 use lib.ListN.{length, getD}
 use lib.Seq.{ext-getD}
 use Rattle.laws.proofs.Bools.{where-so, then, holds}
-use Rattle.laws.proofs.Tested.{below, at, and-left, and-right}
+use Rattle.laws.specs.Tests.{below}
+use Rattle.laws.proofs.Tested.{at, and-left, and-right}
 use Rattle.pulses.specs.Row.{groups, firstData, mostPlaces, groupOf, weightOf, goodPulses, shareOf, sumOf, sumsOf, row}
 use Rattle.pulses.proofs.SumLaws.{sums-at, length-sums}
 use Rattle.pulses.proofs.TripLaws.{sum-small, read-written, written-sums}

@@ -10,7 +10,8 @@ use lib.ListN.{length, getD, take, drop, length-drop, take-append-drop, drop-of-
 use lib.Seq.{length-take-le, drop-drop, getD-take, getD-drop}
 use borrow.Author.Tests.{not-false}
 use Rattle.laws.proofs.Bools.{holds as is-held, same-bool}
-use Rattle.laws.proofs.Tested.{below, at}
+use Rattle.laws.specs.Tests.{below}
+use Rattle.laws.proofs.Tested.{at}
 use Rattle.wire.specs.Layout.{packed, exactly, from, either, printable, printables}
 use Rattle.wire.specs.Digits.{pair, tens, ones}
 use Rattle.wire.proofs.LayoutLaws.{all-printables}

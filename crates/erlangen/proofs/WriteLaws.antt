@@ -11,7 +11,8 @@ use lib.ListN.{take, drop}
 use lib.Seq.{take-at}
 use borrow.Author.Tests.{not-true, eq-eqb, ne-eqb, le-leb}
 use Rattle.laws.proofs.Bools.{is-true}
-use Rattle.laws.proofs.Tested.{below, at}
+use Rattle.laws.specs.Tests.{below}
+use Rattle.laws.proofs.Tested.{at}
 use Rattle.wire.specs.Digits.{digit, ones}
 use Rattle.wire.proofs.FirstBad.{clash}
 use Rattle.wire.proofs.DigitLaws.{digit-back, pair-of}

@@ -9,7 +9,8 @@ use borrow.Author.Tests.{eqb-true, eqb-false, le-leb}
 use lib.Dec.{T, eqb, eqb→eq}
 use lib.ListN.{length, getD}
 use lib.Seq.{ext-getD}
-use Rattle.laws.proofs.Tested.{below, at}
+use Rattle.laws.specs.Tests.{below}
+use Rattle.laws.proofs.Tested.{at}
 use Rattle.calendar.specs.declared.Date.{Date}
 use Rattle.calendar.specs.Calendar.{leapYear, daysIn, dayOfYear, isMonth, lastDay, isDay, isDate}
 use Rattle.calendar.proofs.DateLaws.{Real, month-of}

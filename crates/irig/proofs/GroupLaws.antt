@@ -10,7 +10,8 @@ use lib.ListN.{length, getD}
 use lib.Pow.{pow-mono}
 use lib.Seq.{ext-getD}
 use Rattle.laws.proofs.Bools.{where-so}
-use Rattle.laws.proofs.Tested.{below, at, and-left, and-right}
+use Rattle.laws.specs.Tests.{below}
+use Rattle.laws.proofs.Tested.{at, and-left, and-right}
 use Rattle.pulses.specs.Row.{groups, firstData, groupOf, weightOf, shareOf, sumOf, sumsOf, pulsesIn, row}
 use Rattle.pulses.proofs.SumLaws.{sums-at, length-sums}
 use Rattle.pulses.proofs.TripLaws.{sum-small, read-written}

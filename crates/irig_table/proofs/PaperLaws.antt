@@ -5,7 +5,8 @@ use Prim.Native.Nat.{ℕ, _<_, _≤_}
 use native.Mathlib.Omega.{arith}
 use lib.Dec.{T, eqb, eqb→eq, leb, leb→le}
 use lib.ListN.{getD, List·getD-eq-default}
-use Rattle.laws.proofs.Tested.{below, at, and-left, and-right}
+use Rattle.laws.specs.Tests.{below}
+use Rattle.laws.proofs.Tested.{at, and-left, and-right}
 use Rattle.pulses.specs.Row.{groupOf, weightOf}
 use Rattle.irig_table.specs.declared.Pulse.{Pulse}
 use Rattle.irig_table.specs.Table.{framePulses}

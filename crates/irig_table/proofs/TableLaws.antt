@@ -6,7 +6,8 @@ use Prim.Native.Nat.{ℕ, _<_}
 use lib.Dec.{T, eqb, eqb→eq}
 use lib.ListN.{length, getD}
 use Rattle.laws.proofs.Bools.{where-so, then, holds}
-use Rattle.laws.proofs.Tested.{below, at}
+use Rattle.laws.specs.Tests.{below}
+use Rattle.laws.proofs.Tested.{at}
 use Rattle.pulses.specs.Row.{groups, groupOf, weightOf, sound, doubling, pulsesIn, upTo}
 use Rattle.pulses.proofs.SumLaws.{up-to-at}
 use Rattle.irig_table.specs.Table.{framePulses, parity, mark}

@@ -1,11 +1,12 @@
 -- A fact of every signed number of a width, by one test that antt computes over all of them.
 use mathlib.Core.Path.{_≡_, ap}
-use mathlib.Core.Bool.{Bool, true, false, _&&_}
+use mathlib.Core.Bool.{Bool, _&&_}
 use Prim.Native.Nat.{ℕ, _<_}
-use lib.Dec.{T, eqb, eqb→eq}
+use lib.Dec.{T, eqb→eq}
 use lib.IntN.{ℤ, pos, negsuc}
 use lib.Signed.{mag}
-use Rattle.laws.proofs.Tested.{below, at, and-left, and-right}
+use Rattle.laws.specs.Tests.{below, same}
+use Rattle.laws.proofs.Tested.{at, and-left, and-right}
 
 -- Q holds of the numbers from -n to n - 1
 abbrev pub all : ℕ → (ℤ → Bool) → Bool
@@ -14,12 +15,6 @@ all n Q = below (λ k. Q (pos k)) n && below (λ k. Q (negsuc k)) n
 pub each : (n : ℕ) (Q : ℤ → Bool) → T (all n Q) → (z : ℤ) → mag z < n → T (Q z)
 each n Q t (pos k) h = at (λ m. Q (pos m)) n (and-left (below (λ m. Q (pos m)) n) (below (λ m. Q (negsuc m)) n) t) k h
 each n Q t (negsuc k) h = at (λ m. Q (negsuc m)) n (and-right (below (λ m. Q (pos m)) n) (below (λ m. Q (negsuc m)) n) t) k h
-
-abbrev pub same : ℤ → ℤ → Bool
-same (pos a) (pos b) = eqb a b
-same (pos a) (negsuc b) = false
-same (negsuc a) (pos b) = false
-same (negsuc a) (negsuc b) = eqb a b
 
 pub same-is : (x y : ℤ) → T (same x y) → x ≡ y
 same-is (pos a) (pos b) t = ap pos (eqb→eq a b t)

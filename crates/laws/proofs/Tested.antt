@@ -6,11 +6,7 @@ use native.Mathlib.Nat.{not-suc-le-zero}
 use native.Mathlib.Decide.{ℕ-discrete}
 use native.Mathlib.Omega.{arith}
 use lib.Dec.{T}
-
--- f holds of every number below n
-abbrev pub below : (ℕ → Bool) → ℕ → Bool
-below f zero = true
-below f (suc n) = f n && below f n
+use Rattle.laws.specs.Tests.{below}
 
 pub and-left : (a b : Bool) → T (a && b) → T a
 and-left true b t = tt

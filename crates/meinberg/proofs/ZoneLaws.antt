@@ -6,7 +6,8 @@ use Prim.Native.Nat.{ℕ}
 use lib.Dec.{eqb}
 use lib.IntN.{ℤ}
 use Rattle.laws.proofs.Bools.{both, holds, same-bool}
-use Rattle.laws.proofs.Signed.{same, same-is}
+use Rattle.laws.specs.Tests.{same}
+use Rattle.laws.proofs.Signed.{same-is}
 use Rattle.reading.specs.Offset.{west, east, offsetGood}
 use Rattle.meinberg.specs.Layout.{space, letterS, letterU}
 use Rattle.meinberg.specs.Zones.{offsetOf, summerOf, isZone, zoneCarried, zoneLetter}

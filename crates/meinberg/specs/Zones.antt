@@ -3,7 +3,7 @@ use mathlib.Core.Bool.{Bool, cond, Bool·beq, _&&_, _||_}
 use Prim.Native.Nat.{ℕ}
 use lib.Dec.{eqb}
 use lib.IntN.{ℤ, pos}
-use Rattle.laws.proofs.Signed.{same}
+use Rattle.laws.specs.Tests.{same}
 use Rattle.meinberg.specs.Layout.{space, letterS, letterU}
 
 -- "x is `U` (offset 0), space (offset +2 half hours) or `S` (+4, summer)": the offset

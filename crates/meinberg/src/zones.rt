@@ -1,7 +1,7 @@
 // The zones of a Meinberg string: the one place where their offsets stand.
 use reading::LocalMinusUtc;
+use reading::offsets::same_offset;
 ghost use mathlib.Core.Path.{_≡_};
-ghost use Rattle.laws.proofs.Signed.{same};
 ghost use Rattle.meinberg.specs.Zones.{offsetOf, summerOf, isZone, zoneCarried, zoneLetter};
 
 pub(crate) fn offset_of(letter: u8) -> LocalMinusUtc
@@ -20,12 +20,6 @@ pub(crate) fn summer_of(letter: u8) -> bool
     ensures { λ b. ⌜ b ≡ summerOf letter ⌝ }
 {
     letter == b'S'
-}
-
-fn same_offset(a: LocalMinusUtc, b: LocalMinusUtc) -> bool
-    ensures { λ r. ⌜ r ≡ same (a .0) (b .0) ⌝ }
-{
-    (a.west() == b.west()) & (a.east() == b.east())
 }
 
 fn is_zone(letter: u8, offset: LocalMinusUtc, summer: bool) -> bool

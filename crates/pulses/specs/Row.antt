@@ -6,7 +6,7 @@ use Prim.Native.Nat.{ℕ, zero, suc, _+_, _-_, _*_, _/_, _%_, _^_}
 use lib.Bits.{bitAnd}
 use lib.Dec.{leb, ltb, eqb}
 use lib.ListN.{length, getD, take, drop}
-use Rattle.laws.proofs.Tested.{below}
+use Rattle.laws.specs.Tests.{below}
 use Rattle.pulses.specs.declared.Scan.{Scan}
 
 -- what one group is worth in an entry

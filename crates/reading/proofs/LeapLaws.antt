@@ -5,7 +5,8 @@ use Prim.Native.Nat.{ℕ, suc, _-_, _≤_, _<_}
 use native.Mathlib.Omega.{arith}
 use lib.Dec.{T, eqb, leb, leb→le, ltb, le→leb}
 use Rattle.laws.proofs.Bools.{where-so, then, same-bool}
-use Rattle.laws.proofs.Tested.{below, at}
+use Rattle.laws.specs.Tests.{below}
+use Rattle.laws.proofs.Tested.{at}
 use Rattle.calendar.specs.declared.Date.{Date}
 use Rattle.calendar.specs.Calendar.{leapYear, daysIn, dayBefore}
 use Rattle.calendar.proofs.DateLaws.{Real, month-of}

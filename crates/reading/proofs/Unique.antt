@@ -1,5 +1,7 @@
 -- Of each public function of the reading: any two answers that its contract allows coincide.
 use Rattle.laws.proofs.Coincide.{Coincide}
+use Rattle.reading.proofs.offsets.same_offset.Kinds as same-offset-kinds
+use Rattle.reading.proofs.offsets.same_offset.Reads as same-offset-reads
 use Rattle.reading.proofs.LocalMinusUtc.west.Kinds as west-kinds
 use Rattle.reading.proofs.LocalMinusUtc.west.Reads as west-reads
 use Rattle.reading.proofs.LocalMinusUtc.east.Kinds as east-kinds
@@ -40,6 +42,9 @@ use Rattle.reading.proofs.checks.checked.Kinds as checked-kinds
 use Rattle.reading.proofs.checks.checked.Reads as checked-reads
 use Rattle.reading.proofs.stamps.stamp_of.Kinds as stamp-of-kinds
 use Rattle.reading.proofs.stamps.stamp_of.Reads as stamp-of-reads
+
+pub same-offset-one : Coincide 0 same-offset-kinds.ps same-offset-kinds.r same-offset-reads.Post
+same-offset-one κs a x y e f p q = cc
 
 pub west-one : Coincide 0 west-kinds.ps west-kinds.r west-reads.Post
 west-one κs a x y e f p q = cc

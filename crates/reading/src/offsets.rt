@@ -3,6 +3,7 @@ use super::AddedToLocal;
 use super::LocalMinusUtc;
 ghost use mathlib.Core.Path.{_≡_};
 ghost use Prim.Native.Nat.{_≤_};
+ghost use Rattle.laws.specs.Tests.{same};
 ghost use Rattle.reading.specs.Offset.{west, east, offsetGood, opposite, localOf};
 
 // The minutes of a unit of offset, and how many units an offset goes west and east of UTC.
@@ -11,6 +12,13 @@ pub const UNIT: u16 = 30;
 pub const WESTMOST: u16 = 24;
 
 pub const EASTMOST: u16 = 28;
+
+// Whether two offsets are one.
+pub fn same_offset(a: LocalMinusUtc, b: LocalMinusUtc) -> bool
+    ensures { λ r. ⌜ r ≡ same (a .0) (b .0) ⌝ }
+{
+    (a.west() == b.west()) & (a.east() == b.east())
+}
 
 impl LocalMinusUtc {
     pub fn west(self) -> u16

@@ -48,7 +48,7 @@ unfolding cases pinned among withOnes turned answerTo
     isMonth lastDay isDay isDate dayBefore dayAfter yearAfter monthUpTo inYear monthDay
     digit pair tens ones packed exactly from either oneOf within beside allowed goodPlaces printable printables
     strings.dayBad strings.monthBad strings.weekdayBad strings.weekdayWrong strings.faultOf
-    meinberg-layout.layout zones.offsetOf zones.summerOf zones.sameOffset zones.isZone zones.zoneCarried zones.zoneLetter
+    meinberg-layout.layout zones.offsetOf zones.summerOf zones.isZone zones.zoneCarried zones.zoneLetter
     meinberg.qualityOf meinberg.coastingIn meinberg.meaning meinberg.faultIn meinberg.readMeinberg
     meinberg-writing.announcement meinberg-writing.bytesOf meinberg-writing.notCarried meinberg-writing.writeFault
     erlangen-layout.layout erlangen-offset.wholeUnits erlangen-offset.unitsOf erlangen-offset.tooFar erlangen-offset.offsetBad

@@ -9,7 +9,8 @@ use lib.Dec.{T, eqb, eqb→eq}
 use lib.ListN.{getD}
 use borrow.Author.Tests.{ne-eqb}
 use Rattle.laws.proofs.Bools.{where-not, otherwise}
-use Rattle.laws.proofs.Tested.{below, at}
+use Rattle.laws.specs.Tests.{below}
+use Rattle.laws.proofs.Tested.{at}
 use Rattle.calendar.specs.Calendar.{daysIn}
 use Rattle.calendar.proofs.MonthLaws.{past-december}
 use Rattle.calendar.proofs.months.days_in.Statement.{statement}

@@ -5,7 +5,8 @@ use lib.Signed.{mag}
 use mir.Syntax.{w8}
 use mir.Val.{toZ, ofZ}
 use Rattle.laws.proofs.Tested.{at}
-use Rattle.laws.proofs.Signed.{same, same-is}
+use Rattle.laws.specs.Tests.{same}
+use Rattle.laws.proofs.Signed.{same-is}
 use Rattle.reading.specs.Offset.{opposite}
 use Rattle.erlangen.specs.Offset.{signed}
 use borrow.Author.Needs.{needs}

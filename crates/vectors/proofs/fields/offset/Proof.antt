@@ -7,7 +7,8 @@ use lib.Dec.{ltb}
 use mir.Syntax.{w8}
 use mir.Val.{toZ}
 use Rattle.laws.proofs.Bools.{where-not, otherwise}
-use Rattle.laws.proofs.Signed.{same, same-is}
+use Rattle.laws.specs.Tests.{same}
+use Rattle.laws.proofs.Signed.{same-is}
 use Rattle.laws.proofs.Tested.{at}
 use Rattle.vectors.specs.Payload.{signed}
 use borrow.Author.Needs.{needs}

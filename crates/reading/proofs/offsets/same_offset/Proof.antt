@@ -1,13 +1,13 @@
--- `dcf77::writer::same` meets its contract. Assumes nothing.
+-- `reading::offsets::same_offset` meets its contract. Assumes nothing.
 use borrow.Author.Needs.{needs}
 use mathlib.Core.Bool.{Bool, true, false, _&&_}
 use mathlib.Core.Path.{_≡_, refl}
 use lib.Dec.{eqb, eqb·zero-suc, eqb·suc-zero, eqb·suc-suc}
 use lib.IntN.{ℤ, pos, negsuc}
-use Rattle.laws.proofs.Signed.{same}
+use Rattle.laws.specs.Tests.{same}
 use Rattle.reading.specs.Offset.{west, east}
-use Rattle.dcf77.proofs.writer.same.Statement.{statement}
-use Rattle.dcf77.proofs.writer.same.Tie as tie
+use Rattle.reading.proofs.offsets.same_offset.Statement.{statement}
+use Rattle.reading.proofs.offsets.same_offset.Tie as tie
 
 and-true : (b : Bool) → (b && true) ≡ b
 and-true true = refl
@@ -34,8 +34,11 @@ east-requires-2 : tie.Need-east-requires-2
 east-requires-2 c κs = search needs
 
 returns : tie.Need-returns
-returns c = rw (c .before .before .before .west .ensures .0, c .before .before .west2 .ensures .0, c .before .east .ensures .0, c .east2 .ensures .0) (by-sides (c .before .before .before .before .args .a .0) (c .before .before .before .before .args .b .0))
+returns c =
+    let w = c .before .before in
+    let a = w .before .before .args in
+    rw (w .before .west .ensures .0, w .west2 .ensures .0, c .before .east .ensures .0, c .east2 .ensures .0) (by-sides (a .a .0) (a .b .0))
 
-pub same-spec : {M : Type 1} → statement M
-same-spec =
+pub same-offset-spec : {M : Type 1} → statement M
+same-offset-spec =
     tie.close (tie.spec west-requires west-requires-2 east-requires east-requires-2 returns)

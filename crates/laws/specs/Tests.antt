@@ -1,0 +1,17 @@
+-- Two tests that definitions of other crates are written with.
+use mathlib.Core.Bool.{Bool, true, false, _&&_}
+use Prim.Native.Nat.{ℕ, zero, suc}
+use lib.Dec.{eqb}
+use lib.IntN.{ℤ, pos, negsuc}
+
+-- f holds of every number below n
+abbrev pub below : (ℕ → Bool) → ℕ → Bool
+below f zero = true
+below f (suc n) = f n && below f n
+
+-- two signed numbers are one
+abbrev pub same : ℤ → ℤ → Bool
+same (pos a) (pos b) = eqb a b
+same (pos a) (negsuc b) = false
+same (negsuc a) (pos b) = false
+same (negsuc a) (negsuc b) = eqb a b
