@@ -1,7 +1,9 @@
 // Answers the cases that stand on standard input, a line each, with the proved functions, and prints as it goes.
 // second/README.md says what a case is; what this prints is compared with what the independent second program answers.
+use listing::ROOM;
 ghost use mathlib.Core.Path.{_≡_};
 ghost use lib.ListN.{length};
+ghost use Rattle.listing.specs.Listing.{roomForAny};
 
 mod answers;
 mod changes;
@@ -41,10 +43,10 @@ fn one_case(space: &mut [u8], page: &mut [u8]) -> bool {
 }
 
 // A page has room for every listing.
-fn page_for_listing() -> [u8; 262144]
-    ensures { λ r. ⌜ 262144 ≡ length r ⌝ }
+fn page_for_listing() -> [u8; ROOM]
+    ensures { λ r. ⌜ roomForAny ≡ length r ⌝ }
 {
-    [0; 262144]
+    [0; ROOM]
 }
 
 // A proved loop has to end, so it counts down from a number that no run uses up.
