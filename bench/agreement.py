@@ -1,17 +1,19 @@
 """Before anything is counted: the proved functions, the C baseline and the second program have to give the same answers, on
-every record that is counted and on damaged ones."""
+every record that is counted, on damaged ones, and around every month end."""
 import subprocess
 import sys
 
 import kit
 import records
 import rows
+import case_months
 from book import listing_text
 from case_parts import bridge_case, case
 
 STEP = 7
 PULSES = (0, 1, 2, 255)
-BRIDGE_CASE = 10
+ANSWERED_IN_C = {*range(1, 9), 10, 11, 12}
+BOOK = 13
 
 
 def damaged(good, step=STEP):
@@ -48,6 +50,11 @@ def cases_of_pulses():
         yield name, [case(op, long)] + [case(op, other) for other in damaged_streams(stream)]
 
 
+def cases_of_month_ends():
+    """The leap rule at every month end: the second program's own cases, as far as the C baseline answers them."""
+    yield "month ends", [one for one in case_months.make() if one[0] in ANSWERED_IN_C]
+
+
 def second_answers(given):
     words = [sys.executable, kit.ROOT / "second" / "answers.py"]
     return subprocess.run(words, input=given, stdout=subprocess.PIPE, check=True).stdout
@@ -64,7 +71,7 @@ def first_difference(cases, answers):
 def compare(ours, plain, length):
     """Stops where two of the three differ; else the number of cases."""
     total = 0
-    for name, cases in [*cases_of_records(length), *cases_of_pulses()]:
+    for name, cases in [*cases_of_records(length), *cases_of_pulses(), *cases_of_month_ends()]:
         given = b"".join(cases)
         outputs = (kit.output_of(ours, given), kit.output_of(plain, given), second_answers(given))
         answers = [output.split(b"\n") for output in outputs]
@@ -75,9 +82,10 @@ def compare(ours, plain, length):
 
 
 def compare_listings(programs, length):
-    """The same for the listing program: a book, books cut short, and some changes of a small one."""
+    """The same for the listing program: a book, books cut short, some changes of a small one, and a book of each month end."""
     whole, small = records.book(length), records.book(10)
     books = [b"", whole, whole + bytes(65537), *(whole[:end] for end in range(0, len(whole), 997)), *damaged(small, 1009)]
+    books += [one[3:] for one in case_months.make() if one[0] == BOOK]
     for one in books:
         wrote = [kit.output_of(program, one) for program in programs] + [listing_text(one).encode()]
         if any(text != wrote[0] for text in wrote):

@@ -51,9 +51,9 @@ def beside_of(form, number):
 
 
 def long_minute_of(number):
-    """A reading whose minute has 61 marks: 00:00 UTC of 1 January or 1 July with a leap second announced."""
+    """A reading whose minute has 61 marks: 00:00 UTC of the first of any month with a leap second announced."""
     offset, summer = zone_of("DCF77", number)
-    first = datetime.datetime(2001 + number % 98, 1 if number % 2 else 7, 1)
+    first = datetime.datetime(2001 + number % 98, number % 12 + 1, 1)
     return case_parts.local(first, offset, summer=summer, leap=True)
 
 

@@ -18,15 +18,16 @@ STRING_VALUES = {"month": (0, 13, 99), "day": (0, 29, 30, 31, 32, 99), "hour": (
 
 
 def good_reading(dice: random.Random) -> Reading:
-    """A reading that any format but the frame may still refuse; often near a leap second."""
+    """A reading that any format but the frame may still refuse; often near a month end."""
     offset = dice.choice((0, 2, 4, 2, 4, dice.randrange(-24, 29)))
     utc = datetime(2000, 1, 1) + timedelta(days=dice.randrange(DAY_COUNT),
                                            minutes=dice.randrange(1440))
     second = dice.choice((0, 0, 1, 59, dice.randrange(60)))
     if dice.random() < 0.3:
-        month, day = dice.choice(((6, 30), (12, 31)))
-        utc = datetime(dice.randrange(2001, 2099), month, day, 23, 59)
-        utc += timedelta(minutes=dice.choice((-1, 0, 0, 0, 1, 1)))
+        month = dice.choice((1, 3, 7, dice.randrange(1, 13), dice.randrange(1, 13)))
+        day = dice.choice((1, 1, 1, 1, 2, dice.randrange(2, 29)))
+        utc = datetime(dice.randrange(2001, 2099), month, day)
+        utc += timedelta(minutes=dice.choice((-2, -1, -1, -1, 0, 0)))
         second = dice.choice((0, 1, 59, 60, 60))
     reading = local(utc, offset, second, summer=offset == 4,
                     leap=dice.random() < 0.3, change=dice.random() < 0.2,

@@ -6,6 +6,7 @@ from typing import Iterator
 
 import case_frames
 import case_minutes
+import case_months
 import case_others
 import case_random
 import case_streams
@@ -16,6 +17,7 @@ NAMED = {
     "strings": case_strings.make,
     "frames": case_frames.make,
     "minutes": case_minutes.make,
+    "months": case_months.make,
     "stamps": case_others.stamps,
     "bridges": case_others.bridges,
     "streams": case_streams.make,

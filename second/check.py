@@ -14,6 +14,7 @@ import dcf77
 import erlangen
 import ieee1344
 import meinberg
+from bridge import bridge
 from pulse_readers import FrameReader
 from reading import Reading, Refusal, Told, stamp, utc_minute
 
@@ -22,6 +23,14 @@ CASE_SIX_ONES = [2, 3, 6, 8, 12, 15, 16, 21, 25, 36, 37, 52, 56, 64, 65, 75, 84,
                  94, 96]
 CASE_EIGHT_ONES = [18, 20, 23, 25, 26, 28, 30, 33, 36, 39, 41, 44, 46, 52, 55, 58]
 CASE_TWO = b"\x02D:31.12.16;T:6;U:23.59.60;  UA\x03"
+SIXTY_STAMPED = {b"\x02D:29.02.24;T:4;U:23.59.60;  UA\x03": 762575225,
+                 b"\x02D:01.03.24;T:5;U:00.59.60;   A\x03": 762575225,
+                 b"\x02D:01.03.24;T:5;U:01.59.60;  SA\x03": 762575225,
+                 b"\x02D:28.02.23;T:2;U:23.59.60;  UA\x03": 730952459,
+                 b"\x02D:31.03.24;T:7;U:23.59.60;  U \x03": 765253656,
+                 b"\x02D:30.04.24;T:2;U:23.59.60;  U \x03": 767845686}
+SIXTY_REFUSED = (b"\x02D:28.02.24;T:3;U:23.59.60;  UA\x03", b"\x02D:29.02.24;T:4;U:23.59.60;   A\x03",
+                 b"\x02D:31.03.24;T:7;U:23.59.60;  SA\x03")
 # op -> every code it can give; each must occur in the named streams, and no other may.
 CODES = {1: {1, 2, 5, 6, 9}, 2: {1, 2, 5, 6, 8, 9}, 3: {1, 2, 3, 4, 5, 7, 8, 9, 10},
          4: {1, 2, 3, 4, 5, 6, 8, 9}, 5: {1, 5, 8, 9, 11}, 6: {1, 2, 5, 8, 9, 11},
@@ -71,6 +80,25 @@ def check_dates(check: Checks) -> None:
     check.that(isinstance(ieee1344.read(frame_of(early)), Told), "case 9, accepted")
     check.that(stamp(early) == Refusal(12), "case 9, stamp")
     check.that(stamp(moment(2099, 12, 31, 23, 59, 60, 0)) == 3155796524, "largest stamp")
+
+
+def check_month_ends(check: Checks) -> None:
+    """L3: second 60 at the end of any UTC month, the bridge's pending bit and the long minute."""
+    for string, value in SIXTY_STAMPED.items():
+        told = meinberg.read(string)
+        check.that(isinstance(told, Told) and stamp(told.reading) == value, "accepted %r" % string)
+    for string in SIXTY_REFUSED:
+        check.that(meinberg.read(string) == Refusal(9), "refused %r" % string)
+    for second, pending in (("00", 0), ("01", 1), ("59", 1), ("60", 0)):
+        frame = bytearray(ieee1344.LENGTH)
+        string = ("\x02D:30.04.24;T:2;U:23.59.%s;  UA\x03" % second).encode()
+        check.that(bridge("Meinberg", string, frame) == 100, "bridged at " + second)
+        check.that(frame[60] == pending, "pending at " + second)
+    first = moment(2024, 3, 1, 1, 0, 0, 2)._replace(leap=True)
+    marks = bytearray(61)
+    check.that(dcf77.write(first, 0, marks) == 61, "1 March, written")
+    check.that(dcf77.read(bytes(marks)) == Told(first, 0) and stamp(first) == 762575226, "1 March")
+    check.that(dcf77.read(bytes(marks[:59] + marks[60:])) == Refusal(9), "1 March in 60 marks")
 
 
 def check_frames(check: Checks) -> None:
@@ -213,8 +241,8 @@ def check_streams(check: Checks) -> None:
 
 def main() -> None:
     check = Checks()
-    for part in (check_dates, check_frames, check_layouts, check_listing, check_order,
-                 check_streams):
+    for part in (check_dates, check_month_ends, check_frames, check_layouts, check_listing,
+                 check_order, check_streams):
         part(check)
     for what in check.failed[:50]:
         print("failed: " + what)

@@ -1,5 +1,6 @@
 """The reading (local time, offset, flags), its refusals, its UTC, the leap rule and the stamp.
-The calendar is Python's own datetime; everything else is taken from document 01."""
+The calendar is Python's own datetime; everything else is taken from document 01, the leap rule from
+request L3, which amends it: a leap second may close any UTC month."""
 
 from datetime import date, datetime, timedelta
 from typing import NamedTuple, Optional, Union
@@ -13,8 +14,7 @@ FAILED = 15
 LOCKED = 0
 DAY_ZERO = date(2000, 1, 1)
 STAMPS_PER_DAY = 86401
-LEAP_DAYS = ((6, 30), (12, 31))  # UTC days that may end with second 60
-AFTER_LEAP_DAYS = ((7, 1), (1, 1))
+ONE_MINUTE = timedelta(minutes=1)
 
 
 class Reading(NamedTuple):
@@ -83,16 +83,19 @@ def utc_minute(reading: Reading) -> datetime:
     return local - timedelta(minutes=30 * reading.offset)
 
 
+def starts_month(utc: datetime) -> bool:
+    """True in the UTC minute 00:00 of the first of any month, of any year."""
+    return (utc.day, utc.hour, utc.minute) == (1, 0, 0)
+
+
 def in_leap_minute(reading: Reading) -> bool:
-    """True in the UTC minute 23:59 of 30 June or 31 December, of any year."""
-    utc = utc_minute(reading)
-    return (utc.hour, utc.minute) == (23, 59) and (utc.month, utc.day) in LEAP_DAYS
+    """True in the UTC minute that second 60 may end: the last of a month, 23:59 of its last day."""
+    return starts_month(utc_minute(reading) + ONE_MINUTE)
 
 
 def after_leap_minute(reading: Reading) -> bool:
-    """True in the UTC minute 00:00 of 1 July or 1 January, of any year."""
-    utc = utc_minute(reading)
-    return (utc.hour, utc.minute) == (0, 0) and (utc.month, utc.day) in AFTER_LEAP_DAYS
+    """True in the UTC minute that may follow a second 60."""
+    return starts_month(utc_minute(reading))
 
 
 def second_refusal(reading: Reading) -> Optional[Refusal]:

@@ -1,4 +1,5 @@
-"""Books that the repository holds: a short one that a newcomer lists first, and one of every refusal."""
+"""Books that the repository holds: a short one that a newcomer lists first, one of month ends, and
+one of every refusal."""
 
 from datetime import datetime
 
@@ -22,6 +23,23 @@ def clock_room() -> bytes:
                (1, raw_meinberg(after, weekday=1)), (3, raw_frame(after, second_of_day=1)),
                (2, raw_erlangen(offset="-00:00")), (1, raw_meinberg(early)),
                (4, raw_minute(after, 0, 60)[:30])]
+    return b"".join(bytes((kind,)) + bytes(body) for kind, body in records)
+
+
+def month_ends() -> bytes:
+    """Second 60 at the ends of months in four zones, where a UTC month ends and where none does; and
+    the minute that names 1 March 2024, 00:00 UTC, a leap second announced, in 61 marks and in 60."""
+    def sixty(year: int, month: int, day: int, hour: int, offset: int) -> Reading:
+        return Reading(year, month, day, hour, 59, 60, offset, offset == 4, False, False, 0)
+
+    ends = [(2024, 2, 29, 23, 0), (2024, 3, 1, 0, 2), (2024, 3, 1, 1, 4), (2023, 2, 28, 23, 0),
+            (2024, 3, 31, 23, 0), (2024, 4, 30, 23, 0)]
+    others = [(2024, 2, 28, 23, 0), (2024, 2, 29, 23, 2), (2024, 3, 31, 23, 4)]
+    march = local(datetime(2024, 3, 1), 2, leap=True)
+    records = [(1, raw_meinberg(sixty(*at))) for at in ends + others]
+    records += [(2, raw_erlangen(sixty(2024, 2, 29, 16, -14))),
+                (3, raw_frame(sixty(2024, 2, 29, 23, 0))),
+                (5, raw_minute(march, 0, 61)), (4, raw_minute(march, 0, 60))]
     return b"".join(bytes((kind,)) + bytes(body) for kind, body in records)
 
 

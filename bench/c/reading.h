@@ -93,18 +93,19 @@ static inline struct utc utc_of(const struct reading *r)
     return u;
 }
 
-/* 23:59 UTC on 30 June or 31 December. */
+/* 23:59 UTC on the last day of a month. A UTC date in another year than the local one is in December or January, whose
+   length no year changes. */
 static inline bool in_leap_minute(const struct reading *r)
 {
     struct utc u = utc_of(r);
-    return u.minute == 1439 && ((u.month == 6 && u.day == 30) || (u.month == 12 && u.day == 31));
+    return u.minute == 1439 && u.day == month_length(r->year, u.month);
 }
 
-/* 00:00 UTC on 1 July or 1 January. */
+/* 00:00 UTC on the first of a month. */
 static inline bool after_leap_minute(const struct reading *r)
 {
     struct utc u = utc_of(r);
-    return u.minute == 0 && u.day == 1 && (u.month == 7 || u.month == 1);
+    return u.minute == 0 && u.day == 1;
 }
 
 static inline bool second_is_good(const struct reading *r) { return r->second != 60 || in_leap_minute(r); }

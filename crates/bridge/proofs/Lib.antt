@@ -1,4 +1,3 @@
 pub mod PendingLaws
 pub mod BridgeLaws
-pub mod Worked
 pub mod Unique

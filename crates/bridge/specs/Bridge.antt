@@ -21,7 +21,8 @@ use Rattle.bridge.specs.declared.Kind.{Kind}
 use Rattle.bridge.specs.declared.Kind.the-variants.{Meinberg, Erlangen}
 
 -- "Leap pending is set exactly when leap is announced and UTC is 23:59:01..23:59:59 on 30 June or 31 December; change pending
--- exactly when change is announced and local minute is 59, second 1..59. All else of the reading goes over as it is."
+-- exactly when change is announced and local minute is 59, second 1..59. All else of the reading goes over as it is." By L3 the
+-- leap pending bit is "allowed at every month end".
 unfoldable pub pendingOf : Reading → Reading
 pendingOf r =
     record {

@@ -12,7 +12,7 @@ pub fn is_leap(year: u16) -> bool
 // January first; February is that of a common year.
 const DAYS: [u8; 13] = [0, 31, 28, 31, 30, 31, 30, 31, 31, 30, 31, 30, 31];
 
-pub(crate) fn days_in(leap: bool, month: u8) -> u8
+pub fn days_in(leap: bool, month: u8) -> u8
     ensures { λ r. ⌜ r ≡ daysIn leap month ⌝ }
 {
     if 12 < month {

@@ -1,5 +1,5 @@
 -- The two lengths: 61 marks exactly by the leap rule, and how many bytes the writer asks for.
-use mathlib.Core.Bool.{Bool, true, false, _&&_, _||_}
+use mathlib.Core.Bool.{Bool, true, false, _&&_}
 use mathlib.Core.List.{List}
 use mathlib.Core.Path.{_≡_, refl, sym, ap, _∙_}
 use Prim.Native.Nat.{ℕ, _<_, _≤_}
@@ -16,7 +16,7 @@ use Rattle.reading.specs.Leap.{afterLeap}
 use Rattle.reading.specs.Checks.{checkedOf}
 use Rattle.reading.proofs.CheckLaws.{checked-is, clash}
 use Rattle.reading.proofs.UtcLaws.{Base, universal}
-use Rattle.reading.proofs.LeapLaws.{first-after-leap}
+use Rattle.reading.proofs.LeapLaws.{after-leap-first}
 use Rattle.dcf77.specs.declared.Answer.the-variants.{Time}
 use Rattle.dcf77.specs.Forms.{shortLength, longLength, lengthOf, dueLong}
 use Rattle.dcf77.specs.Reader.{readDcf77}
@@ -53,12 +53,12 @@ module _ (base : ℕ) (s : List ℕ) (r : Reading) (h : ℕ) (e : readDcf77 base
   unfolding dueLong lengthOf
   elsewhere-short k = length-due ∙ rw (k, and-false (r .leap))
 
--- "leap is announced and the named minute is 00:00 UTC of 1 January or 1 July"
+-- "leap is announced and the named minute is 00:00 UTC of 1 January or 1 July", which by L3 "becomes 00:00 UTC on the first of any
+-- month"
 pub due-named : (base : ℕ) (r : Reading) → Base base → checkedOf base r ≡ Good
-    → dueLong r
-    ≡ (r .leap && (eqb (utcOf r .minute) 0 && (eqb (utcOf r .date .day) 1 && (eqb (utcOf r .date .month) 1 || eqb (utcOf r .date .month) 7))))
-unfolding dueLong afterLeap
-due-named base r b e = rw (first-after-leap (utcOf r .date) (universal base r b (checked-is base r e) .real))
+    → dueLong r ≡ (r .leap && (eqb (utcOf r .minute) 0 && eqb (utcOf r .date .day) 1))
+unfolding dueLong
+due-named base r b e = rw (after-leap-first (utcOf r) (universal base r b (checked-is base r e) .real))
 
 -- ---- the room that the writer asks for
 

@@ -21,7 +21,8 @@ lengthOf long = cond long longLength shortLength
 unfoldable pub lastOf : Bool → ℕ
 lastOf long = cond long 60 59
 
--- "exactly when leap is announced and the named minute is 00:00 UTC of 1 January or 1 July"
+-- "exactly when leap is announced and the named minute is 00:00 UTC of 1 January or 1 July", which by L3 "becomes 00:00 UTC on the
+-- first of any month"
 unfoldable pub dueLong : Reading → Bool
 dueLong r = r .leap && afterLeap (utcOf r)
 

@@ -1,43 +1,53 @@
--- The leap rule at the minute after: "00:00 UTC of 1 January or 1 July" are the days whose day before a leap second may close.
-use mathlib.Core.Bool.{Bool, true, false, cond, Bool·beq, _&&_, _||_}
-use mathlib.Core.Path.{_≡_, refl, _∙_}
-use Prim.Native.Nat.{ℕ, suc, _-_, _≤_, _<_}
+-- The leap rule by the firsts of the months: a leap second may close a day exactly where the day after it is the first of a month,
+-- and the minute after it is "00:00 UTC on the first of any month".
+use mathlib.Core.Bool.{Bool, true, false, cond, _&&_}
+use mathlib.Core.Path.{_≡_, refl, sym, _∙_}
+use Prim.Native.Nat.{ℕ, _+_, _-_}
 use native.Mathlib.Omega.{arith}
-use lib.Dec.{T, eqb, leb, leb→le, ltb, le→leb}
-use Rattle.laws.proofs.Bools.{where-so, then, same-bool}
-use Rattle.laws.specs.Tests.{below}
-use Rattle.laws.proofs.Tested.{at}
+use lib.Dec.{eqb, ltb}
+use borrow.Author.Tests.{eq-eqb, ne-eqb, ltb-true, ltb-false}
 use Rattle.calendar.specs.declared.Date.{Date}
-use Rattle.calendar.specs.Calendar.{leapYear, daysIn, dayBefore}
-use Rattle.calendar.proofs.DateLaws.{Real, month-of}
-use Rattle.reading.specs.Leap.{closesWithLeap}
+use Rattle.calendar.specs.Calendar.{leapYear, daysIn, yearAfter, dayAfter, dayBefore}
+use Rattle.calendar.proofs.DateLaws.{Real}
+use Rattle.reading.specs.declared.Utc.{Utc}
+use Rattle.reading.specs.Leap.{closesWithLeap, afterLeap}
 
-closes : ℕ → ℕ → Bool
-closes m d = eqb m 6 && eqb d 30 || eqb m 12 && eqb d 31
+-- a day closes so exactly where the day after it is the first of a month
+pub closes-before-first : (t : Date) → Real t → closesWithLeap t ≡ eqb (dayAfter t .day) 1
+unfolding dayAfter closesWithLeap
+closes-before-first t p = go (ltb (t .day) last) refl
+  where
+    last : ℕ
+    last = daysIn (leapYear (t .year)) (t .month)
 
--- the day before month m, day d closes so
-before : Bool → ℕ → ℕ → Bool
-before l m d = cond (ltb 1 d) (closes m (d - 1)) (cond (ltb 1 m) (closes (m - 1) (daysIn l (m - 1))) (closes 12 31))
+    next-month : Date
+    next-month = record { year = t .year; month = t .month + 1; day = 1 }
 
-named : ℕ → ℕ → Bool
-named m d = eqb d 1 && (eqb m 1 || eqb m 7)
+    next-year : Date
+    next-year = record { year = yearAfter (t .year); month = 1; day = 1 }
 
-right : Bool → ℕ → ℕ → Bool
-right l m d = where-so (leb d (daysIn l m)) (where-so (leb 1 d) (where-so (leb 1 m) (Bool·beq (before l m d) (named m d))))
+    first : (b : Bool) → eqb (cond b next-month next-year .day) 1 ≡ true
+    first true = refl
+    first false = refl
 
-all-right : (l : Bool) → T (below (λ m. below (right l m) 32) 13)
-unfolding right before closes named daysIn
-all-right true = tt
-all-right false = tt
+    go : (a : Bool) → ltb (t .day) last ≡ a
+        → eqb (t .day) last
+        ≡ eqb (cond a (record { year = t .year; month = t .month; day = t .day + 1 }) (cond (ltb (t .month) 12) next-month next-year) .day) 1
+    go true e =
+        let h = ltb-true (t .day) last e in
+        ne-eqb (t .day) last (λ q. omega arith) ∙ sym (ne-eqb (t .day + 1) 1 (λ q. omega (arith, p .one)))
+    go false e =
+        let h = ltb-false (t .day) last e in
+        eq-eqb (t .day) last (omega (arith, p .last)) ∙ sym (first (ltb (t .month) 12))
 
-longest : (l : Bool) → T (below (λ m. leb (daysIn l m) 31) 13)
+december : (l : Bool) → eqb 31 (daysIn l 12) ≡ true
 unfolding daysIn
-longest true = tt
-longest false = tt
+december l = refl
 
-before-is : (t : Date) → closesWithLeap (dayBefore t) ≡ before (leapYear (t .year)) (t .month) (t .day)
-unfolding dayBefore before closes closesWithLeap
-before-is t = go (ltb 1 (t .day)) (ltb 1 (t .month))
+-- the day before closes so exactly where the day is a first; also of the calendar's very first day, whose day before stays in its year
+closed-before : (t : Date) → Real t → closesWithLeap (dayBefore t) ≡ eqb (t .day) 1
+unfolding dayBefore closesWithLeap
+closed-before t p = go (ltb 1 (t .day)) refl
   where
     l : Bool
     l = leapYear (t .year)
@@ -51,22 +61,19 @@ before-is t = go (ltb 1 (t .day)) (ltb 1 (t .month))
     last-year : Date
     last-year = record { year = t .year - 1; month = 12; day = 31 }
 
-    go : (a b : Bool) → closesWithLeap (cond a same-month (cond b last-month last-year)) ≡ cond a (closes (t .month) (t .day - 1)) (cond b (closes (t .month - 1) (daysIn l (t .month - 1))) (closes 12 31))
-    go true b = refl
-    go false true = refl
-    go false false = refl
+    month : (b : Bool) → closesWithLeap (cond b last-month last-year) ≡ true
+    month true = eq-eqb (daysIn l (t .month - 1)) (daysIn l (t .month - 1)) refl
+    month false = december (leapYear (t .year - 1))
 
-pub first-after-leap : (t : Date) → Real t → closesWithLeap (dayBefore t) ≡ (eqb (t .day) 1 && (eqb (t .month) 1 || eqb (t .month) 7))
-unfolding right named
-first-after-leap t p =
-    let l = leapYear (t .year) in
-    let m = t .month in
-    let d = t .day in
-    let k = month-of t p in
-    let top = leb→le (daysIn l m) 31 (at (λ m. leb (daysIn l m) 31) 13 (longest l) m (omega arith)) in
-    let far : d < 32 = omega (arith, p .last) in
-    let r = at (right l m) 32 (at (λ m. below (right l m) 32) 13 (all-right l) m (omega arith)) d far in
-    let s = then (leb d (daysIn l m)) _ r (le→leb d (daysIn l m) (p .last)) in
-    let u = then (leb 1 d) _ s (le→leb 1 d (p .one)) in
-    let v = then (leb 1 m) _ u (le→leb 1 m (k .0)) in
-    before-is t ∙ same-bool _ _ v
+    go : (a : Bool) → ltb 1 (t .day) ≡ a → closesWithLeap (cond a same-month (cond (ltb 1 (t .month)) last-month last-year)) ≡ eqb (t .day) 1
+    go true e =
+        let h = ltb-true 1 (t .day) e in
+        ne-eqb (t .day - 1) (daysIn l (t .month)) (λ q. omega (arith, p .last)) ∙ sym (ne-eqb (t .day) 1 (λ q. omega arith))
+    go false e =
+        let h = ltb-false 1 (t .day) e in
+        month (ltb 1 (t .month)) ∙ sym (eq-eqb (t .day) 1 (omega (arith, p .one)))
+
+-- the minute after is 00:00 of a first, and no other
+pub after-leap-first : (u : Utc) → Real (u .date) → afterLeap u ≡ (eqb (u .minute) 0 && eqb (u .date .day) 1)
+unfolding afterLeap
+after-leap-first u p = rw (closed-before (u .date) p)

@@ -1,6 +1,8 @@
 // The leap rule, and the windows before a leap second and before a change.
 use super::Utc;
 use calendar::Date;
+use calendar::months::days_in;
+use calendar::months::is_leap;
 use calendar::neighbours::day_before;
 ghost use mathlib.Core.Path.{_≡_};
 ghost use Rattle.reading.specs.Leap.{closesWithLeap, leapMinute, withinMinute, leapWindow, changeWindow, afterLeap};
@@ -11,7 +13,7 @@ const LAST_MINUTE: u16 = 1439;
 fn closes_with_leap(date: Date) -> bool
     ensures { λ r. ⌜ r ≡ closesWithLeap date ⌝ }
 {
-    (date.month == 6) & (date.day == 30) | (date.month == 12) & (date.day == 31)
+    date.day == days_in(is_leap(date.year), date.month)
 }
 
 pub(crate) fn leap_minute(utc: Utc) -> bool

@@ -1,5 +1,5 @@
 -- "Cases 1 to 10 are proved of the written definitions by a single statement over a list of them." The same statement holds of
--- a second list, which pins codes, places, letters and pulses that the cases leave open.
+-- a second list, which pins codes, places, letters and pulses that the cases leave open, and of a third of month ends.
 use mathlib.Core.List.{List, map}
 use mathlib.Core.Path.{_≡_, refl}
 use Rattle.calendar.specs.Calendar.{leapYear, daysIn, daysBefore, yearLength, daysBeforeYear, dayOfYear, dayNumber, weekdayOf, isMonth, lastDay, isDay, isDate, dayBefore, dayAfter, yearAfter, monthUpTo, inYear, monthDay}
@@ -7,7 +7,7 @@ use Rattle.reading.specs.Faults.{number}
 use Rattle.reading.specs.Offset.{west, east, offsetGood, localOf}
 use Rattle.reading.specs.Years.{inHundred, yearOf}
 use Rattle.reading.specs.Universal.{utcMinutes, onDay, utcOf}
-use Rattle.reading.specs.Leap.{closesWithLeap, leapMinute, sixtyBad, afterLeap}
+use Rattle.reading.specs.Leap.{closesWithLeap, leapMinute, sixtyBad, withinMinute, leapWindow, changeWindow, afterLeap}
 use Rattle.reading.specs.Checks.{timeBad, dateBad, checkedOf}
 use Rattle.reading.specs.Stamps.{hasStamp, stampNumber, stampAt, stampOf}
 use Rattle.wire.specs.Digits.{digit, pair, tens, ones}
@@ -31,18 +31,24 @@ use Rattle.dcf77.specs.Zones as minute-zones
 use Rattle.dcf77.specs.Forms as forms
 use Rattle.dcf77.specs.Reader as minute
 use Rattle.dcf77.specs.Writer as minute-writing
+use Rattle.bridge.specs.Bridge.{pendingOf, readString, bridgeAnswer, bridgeFilled}
+use Rattle.text.specs.Decimal.{digitsBefore, decimal}
+use Rattle.book.specs.Body.{bodyLength, readBody}
+use Rattle.book.specs.Book.{recordAt, nextAt, recordsFrom}
+use Rattle.listing.specs.Listing.{lineAt, linesOf, bodyText, listing}
 use Rattle.worked.specs.Questions.{Case, answerTo}
 use Rattle.worked.specs.Given.{among, withOnes, turned}
 use Rattle.worked.specs.Cases.{cases}
 use Rattle.worked.specs.Pinned.{pinned}
+use Rattle.worked.specs.MonthEnds.{monthEnds}
 
 -- each question of the list is answered as the paper answers it
 abbrev pub AsPaper : List Case → Type 0
 AsPaper l = map (λ (c : Case). answerTo (c .asked)) l ≡ map (λ (c : Case). c .answer) l
 
-pub worked : AsPaper cases × AsPaper pinned
-unfolding cases pinned among withOnes turned answerTo
-    stampOf stampAt stampNumber hasStamp checkedOf timeBad dateBad sixtyBad leapMinute closesWithLeap afterLeap
+pub worked : AsPaper cases × AsPaper pinned × AsPaper monthEnds
+unfolding cases pinned monthEnds among withOnes turned answerTo
+    stampOf stampAt stampNumber hasStamp checkedOf timeBad dateBad sixtyBad leapMinute closesWithLeap afterLeap withinMinute leapWindow changeWindow
     utcOf onDay utcMinutes inHundred yearOf west east offsetGood localOf number
     leapYear daysIn daysBefore yearLength daysBeforeYear dayOfYear dayNumber weekdayOf
     isMonth lastDay isDay isDate dayBefore dayAfter yearAfter monthUpTo inYear monthDay
@@ -69,4 +75,6 @@ unfolding cases pinned among withOnes turned answerTo
     minute-writing.plainOf minute-writing.evened minute-writing.withParity minute-writing.valuesOf minute-writing.bytesOf
     minute-writing.headBad minute-writing.checkedWith minute-writing.notCarried minute-writing.carryFault
     minute-writing.needed minute-writing.roomFault minute-writing.writeFault
-worked = (refl, refl)
+    pendingOf readString bridgeAnswer bridgeFilled
+    bodyLength readBody recordAt nextAt recordsFrom decimal digitsBefore lineAt linesOf bodyText listing
+worked = (refl, refl, refl)

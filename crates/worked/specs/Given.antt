@@ -1,7 +1,7 @@
 -- What the worked cases are about: readings, rows of pulses told by their ones, and strings byte by byte.
 use mathlib.Core.Bool.{Bool, true, false, cond, _||_}
 use mathlib.Core.List.{List, [], _∷_, _++_}
-use Prim.Native.Nat.{ℕ, zero, suc, _-_, _%_}
+use Prim.Native.Nat.{ℕ, zero, suc, _+_, _-_, _/_, _%_}
 use lib.Dec.{eqb}
 use lib.IntN.{ℤ, pos, negℤ}
 use lib.ListN.{getD, set, replicate}
@@ -9,9 +9,9 @@ use Rattle.reading.specs.declared.Reading.{Reading}
 
 -- ---- readings
 
--- a local date, time and offset, with no flags and quality 0
-abbrev pub at : ℕ → ℕ → ℕ → ℕ → ℕ → ℕ → ℤ → Reading
-at y mo d h mi s z =
+-- a local date, time and offset, with the summer flag, leap announced, change announced and a quality
+abbrev pub flagged : ℕ → ℕ → ℕ → ℕ → ℕ → ℕ → ℤ → Bool → Bool → Bool → ℕ → Reading
+flagged y mo d h mi s z summer leap change quality =
     record {
       year = y;
       month = mo;
@@ -20,28 +20,19 @@ at y mo d h mi s z =
       minute = mi;
       second = s;
       offset = record { 0 = z };
-      summer = false;
-      leap = false;
-      change = false;
-      quality = 0;
-    }
-
--- case 6's date, hour and minute, with a second, an offset, the summer flag, leap announced, change announced and a quality
-abbrev pub leapDay : ℕ → ℤ → Bool → Bool → Bool → ℕ → Reading
-leapDay s z summer leap change quality =
-    record {
-      year = 2024;
-      month = 2;
-      day = 29;
-      hour = 12;
-      minute = 34;
-      second = s;
-      offset = record { 0 = z };
       summer = summer;
       leap = leap;
       change = change;
       quality = quality;
     }
+
+-- the same with no flags and quality 0
+abbrev pub at : ℕ → ℕ → ℕ → ℕ → ℕ → ℕ → ℤ → Reading
+at y mo d h mi s z = flagged y mo d h mi s z false false false 0
+
+-- case 6's date, hour and minute, with a second, an offset, the summer flag, leap announced, change announced and a quality
+abbrev pub leapDay : ℕ → ℤ → Bool → Bool → Bool → ℕ → Reading
+leapDay s z summer leap change quality = flagged 2024 2 29 12 34 s z summer leap change quality
 
 -- so many half hours east and west of UTC
 abbrev pub plus : ℕ → ℤ
@@ -97,6 +88,20 @@ abbrev pub minute8 : List ℕ
 minute8 = minuteWith 59 ones8
 
 -- ---- strings
+
+-- the two digits of a number
+abbrev pub two : ℕ → List ℕ
+two n = (48 + n / 10) ∷ (48 + n % 10) ∷ []
+
+-- three numbers of two digits, with a byte between them
+abbrev pub three : ℕ → ℕ → ℕ → ℕ → List ℕ
+three between a b c = two a ++ (between ∷ []) ++ two b ++ (between ∷ []) ++ two c
+
+-- STX `D:dd.mm.yy;T:w;U:hh.mm.ss;  xy` ETX, for the numbers dd mm yy w hh mm ss and the bytes x and y
+abbrev pub meinbergAt : ℕ → ℕ → ℕ → ℕ → ℕ → ℕ → ℕ → ℕ → ℕ → List ℕ
+meinbergAt d mo y w h mi s zone announced =
+    (2 ∷ 68 ∷ 58 ∷ []) ++ three 46 d mo y ++ (59 ∷ 84 ∷ 58 ∷ (48 + w) ∷ 59 ∷ 85 ∷ 58 ∷ []) ++ three 46 h mi s
+    ++ (59 ∷ 32 ∷ 32 ∷ zone ∷ announced ∷ 3 ∷ [])
 
 -- STX `D:29.02.24;T:4;U:12.34.56;uvxy` ETX, for the four bytes uvxy
 abbrev pub meinberg6 : ℕ → ℕ → ℕ → ℕ → List ℕ

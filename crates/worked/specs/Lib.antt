@@ -2,3 +2,4 @@ pub mod Questions
 pub mod Given
 pub mod Cases
 pub mod Pinned
+pub mod MonthEnds

@@ -2,7 +2,9 @@
 -- apply, and which pulse, mark or letter says what. A definition that is wrong together with its code stands out here alone.
 use mathlib.Core.Bool.{true, false}
 use mathlib.Core.List.{List, [], _∷_, _++_}
+use Prim.Native.Nat.{ℕ}
 use lib.ListN.{take}
+use Rattle.bridge.specs.declared.Kind.the-variants.{Meinberg, Erlangen}
 use Rattle.worked.specs.Questions.{
   Case,
   gives,
@@ -14,6 +16,7 @@ use Rattle.worked.specs.Questions.{
   toErlangen,
   toPulses,
   toMarks,
+  bridged,
   told,
   toldString,
   toldMinute,
@@ -29,9 +32,11 @@ use Rattle.worked.specs.Given.{
   case8,
   minuteWith,
   turned,
+  frameWith,
   frame6,
   ones8,
   minute8,
+  three,
   meinberg6,
   position,
   erlangen6,
@@ -39,6 +44,25 @@ use Rattle.worked.specs.Given.{
   noFlags,
   sevens,
 }
+use Rattle.worked.specs.Cases.{string2}
+
+-- ---- the bridge
+
+-- STX `31.12.16; 6; 23:mm:ss; +00:00;    !A i; `, 26 spaces of position, ETX: both announced, the byte i
+abbrev lastMinutes : ℕ → ℕ → ℕ → List ℕ
+lastMinutes mi s i =
+    (2 ∷ 51 ∷ 49 ∷ 46 ∷ 49 ∷ 50 ∷ 46 ∷ 49 ∷ 54 ∷ 59 ∷ 32 ∷ 54 ∷ 59 ∷ 32 ∷ []) ++ three 58 23 mi s
+    ++ (59 ∷ 32 ∷ 43 ∷ 48 ∷ 48 ∷ 58 ∷ 48 ∷ 48 ∷ 59 ∷ 32 ∷ 32 ∷ 32 ∷ 32 ∷ 33 ∷ 65 ∷ 32 ∷ i ∷ 59 ∷ 32 ∷ []) ++ position ++ (3 ∷ [])
+
+-- its frame: ones that say second and minute, then hour 23, day 366 and year 16, then the other ones
+abbrev lastFrame : List ℕ → List ℕ → List ℕ
+lastFrame before behind = frameWith (before ++ (13 ∷ 15 ∷ 17 ∷ 20 ∷ 21 ∷ 26 ∷ 31 ∷ 32 ∷ 36 ∷ 37 ∷ 40 ∷ 41 ∷ 51 ∷ 52 ∷ 55 ∷ []) ++ behind)
+
+-- the frame of 23:59:60, in which nothing is pending
+abbrev leapFrame : List ℕ
+leapFrame = lastFrame (7 ∷ 8 ∷ 10 ∷ []) (87 ∷ 88 ∷ 93 ∷ 95 ∷ 97 ∷ [])
+
+-- ---- the list
 
 unfoldable pub pinned : List Case
 pinned =
@@ -95,4 +119,14 @@ pinned =
     -- the same bytes written, and `-12:00`
     ∷ gives (toMeinberg (leapDay 56 (plus 4) true false true 15) true (sevens 34)) (wrote 32 (meinberg6 35 42 83 33 ++ sevens 2))
     ∷ gives (toErlangen (leapDay 56 (minus 24) true true true 15) true position (sevens 70)) (wrote 68 (erlangen6 (45 ∷ 49 ∷ 50 ∷ 58 ∷ 48 ∷ 48 ∷ []) (35 ∷ 42 ∷ 83 ∷ 33 ∷ 65 ∷ 32 ∷ 32 ∷ []) ++ sevens 2))
+    -- the bridge at the edges of both windows: pulses 60 and 62 are 1 at 23:59:01 and 23:59:59, and at 23:58:59, 23:59:00 and
+    -- 23:59:60 they are not
+    ∷ gives (bridged Erlangen (lastMinutes 58 59 32) (sevens 101)) (wrote 100 (lastFrame (1 ∷ 4 ∷ 6 ∷ 8 ∷ []) (75 ∷ 80 ∷ 81 ∷ 86 ∷ 88 ∷ 93 ∷ 95 ∷ 97 ∷ []) ++ sevens 1))
+    ∷ gives (bridged Erlangen (lastMinutes 59 0 32) (sevens 101)) (wrote 100 (lastFrame (10 ∷ []) (82 ∷ 86 ∷ 88 ∷ 93 ∷ 95 ∷ 97 ∷ []) ++ sevens 1))
+    ∷ gives (bridged Erlangen (lastMinutes 59 1 32) (sevens 101)) (wrote 100 (lastFrame (1 ∷ 10 ∷ []) (60 ∷ 62 ∷ 75 ∷ 80 ∷ 82 ∷ 86 ∷ 88 ∷ 93 ∷ 95 ∷ 97 ∷ []) ++ sevens 1))
+    ∷ gives (bridged Erlangen (lastMinutes 59 59 32) (sevens 101)) (wrote 100 (lastFrame (1 ∷ 4 ∷ 6 ∷ 8 ∷ 10 ∷ []) (60 ∷ 62 ∷ 80 ∷ 81 ∷ 82 ∷ 83 ∷ 84 ∷ 85 ∷ 86 ∷ 88 ∷ 93 ∷ 95 ∷ 97 ∷ []) ++ sevens 1))
+    ∷ gives (bridged Erlangen (lastMinutes 59 60 76) (sevens 101)) (wrote 100 (leapFrame ++ sevens 1))
+    -- case 2's string, and 99 bytes of room
+    ∷ gives (bridged Meinberg string2 (sevens 100)) (wrote 100 leapFrame)
+    ∷ gives (bridged Meinberg string2 (sevens 99)) (wroteNone 1 0 (sevens 99))
     ∷ []

@@ -1,4 +1,5 @@
--- What a worked case asks, and what the written definitions answer: those that the contracts of readers, writers and stamping cite.
+-- What a worked case asks, and what the written definitions answer: those that the contracts of readers, writers, stamping, the
+-- bridge and the listing cite.
 use mathlib.Core.Bool.{Bool}
 use mathlib.Core.List.{List}
 use Prim.Native.Nat.{ℕ}
@@ -31,6 +32,9 @@ use Rattle.dcf77.specs.declared.Answer.the-variants as minute
 use Rattle.dcf77.specs.Forms.{lengthOf, dueLong}
 use Rattle.dcf77.specs.Reader.{readDcf77}
 use Rattle.dcf77.specs.Writer.{bytesOf as minuteBytes, writeFault as minuteFault}
+use Rattle.bridge.specs.declared.Kind.{Kind}
+use Rattle.bridge.specs.Bridge.{bridgeAnswer, bridgeFilled}
+use Rattle.listing.specs.Listing.{listing}
 
 pub data Question : Type 0 where
   -- the weekday of a date
@@ -49,6 +53,10 @@ pub data Question : Type 0 where
   toErlangen : Reading → Bool → List ℕ → List ℕ → Question
   toPulses : Reading → List ℕ → Question
   toMarks : Reading → ℕ → List ℕ → Question
+  -- what the bridge does with a string of a kind and a lent buffer
+  bridged : Kind → List ℕ → List ℕ → Question
+  -- the listing of a book
+  listed : List ℕ → Question
 
 pub data Answer : Type 0 where
   day : ℕ → Answer
@@ -62,6 +70,8 @@ pub data Answer : Type 0 where
   -- how many bytes were written, or by which code and place none were, and what the buffer then holds
   wrote : ℕ → List ℕ → Answer
   wroteNone : ℕ → ℕ → List ℕ → Answer
+  -- a text, byte by byte
+  text : List ℕ → Answer
 
 -- ---- the answers of the crates, one by one
 
@@ -109,6 +119,8 @@ answerTo (toErlangen r coasting position out) =
     afterWriting (erlangenFault base r position (length out)) size (erlangenBytes r coasting position) out
 answerTo (toPulses r out) = afterWriting (frameFault base r (length out)) frameLength (frameOf r) out
 answerTo (toMarks r head out) = afterWriting (minuteFault base r head (length out)) (lengthOf (dueLong r)) (minuteBytes r head) out
+answerTo (bridged kind s out) = ofWritten (bridgeAnswer base kind s (length out)) (bridgeFilled base kind s out)
+answerTo (listed b) = text (listing base b)
 
 pub record Case : Type 0 where
   pub asked : Question
