@@ -97,27 +97,29 @@ two n = (48 + n / 10) ∷ (48 + n % 10) ∷ []
 abbrev pub three : ℕ → ℕ → ℕ → ℕ → List ℕ
 three between a b c = two a ++ (between ∷ []) ++ two b ++ (between ∷ []) ++ two c
 
--- STX `D:dd.mm.yy;T:w;U:hh.mm.ss;  xy` ETX, for the numbers dd mm yy w hh mm ss and the bytes x and y
-abbrev pub meinbergAt : ℕ → ℕ → ℕ → ℕ → ℕ → ℕ → ℕ → ℕ → ℕ → List ℕ
-meinbergAt d mo y w h mi s zone announced =
-    (2 ∷ 68 ∷ 58 ∷ []) ++ three 46 d mo y ++ (59 ∷ 84 ∷ 58 ∷ (48 + w) ∷ 59 ∷ 85 ∷ 58 ∷ []) ++ three 46 h mi s
-    ++ (59 ∷ 32 ∷ 32 ∷ zone ∷ announced ∷ 3 ∷ [])
+-- STX `D:dd.mm.yy;T:w;U:hh.mm.ss;uvxy` ETX, for the numbers dd mm yy w hh mm ss and the four bytes uvxy
+abbrev pub meinbergAt : ℕ → ℕ → ℕ → ℕ → ℕ → ℕ → ℕ → List ℕ → List ℕ
+meinbergAt d mo y w h mi s letters =
+    (2 ∷ 68 ∷ 58 ∷ []) ++ three 46 d mo y ++ (59 ∷ 84 ∷ 58 ∷ (48 + w) ∷ 59 ∷ 85 ∷ 58 ∷ []) ++ three 46 h mi s ++ (59 ∷ []) ++ letters ++ (3 ∷ [])
 
 -- STX `D:29.02.24;T:4;U:12.34.56;uvxy` ETX, for the four bytes uvxy
 abbrev pub meinberg6 : ℕ → ℕ → ℕ → ℕ → List ℕ
-meinberg6 u v x y =
-    2 ∷ 68 ∷ 58 ∷ 50 ∷ 57 ∷ 46 ∷ 48 ∷ 50 ∷ 46 ∷ 50 ∷ 52 ∷ 59 ∷ 84 ∷ 58 ∷ 52 ∷ 59 ∷ 85 ∷ 58 ∷ 49 ∷ 50 ∷ 46 ∷ 51 ∷ 52 ∷ 46 ∷ 53 ∷ 54 ∷ 59
-    ∷ u ∷ v ∷ x ∷ y ∷ 3 ∷ []
+meinberg6 u v x y = meinbergAt 29 2 24 4 12 34 56 (u ∷ v ∷ x ∷ y ∷ [])
 
 -- 26 spaces of position
 abbrev pub position : List ℕ
 position = replicate 26 32
 
--- STX `29.02.24; 4; 12:34:56; voo:oo; acdfg i; `, 26 spaces of position, ETX, for the six bytes voo:oo and the seven of `acdfg i`
+-- STX `dd.mm.yy; w; hh:mm:ss; voo:oo; acdfg i; `, 26 spaces of position, ETX, for the numbers dd mm yy w hh mm ss, the six bytes
+-- voo:oo and the seven of `acdfg i`
+abbrev pub erlangenAt : ℕ → ℕ → ℕ → ℕ → ℕ → ℕ → ℕ → List ℕ → List ℕ → List ℕ
+erlangenAt d mo y w h mi s offset flags =
+    (2 ∷ []) ++ three 46 d mo y ++ (59 ∷ 32 ∷ (48 + w) ∷ 59 ∷ 32 ∷ []) ++ three 58 h mi s
+    ++ (59 ∷ 32 ∷ []) ++ offset ++ (59 ∷ 32 ∷ []) ++ flags ++ (59 ∷ 32 ∷ []) ++ position ++ (3 ∷ [])
+
+-- STX `29.02.24; 4; 12:34:56; voo:oo; acdfg i; `, 26 spaces of position, ETX
 abbrev pub erlangen6 : List ℕ → List ℕ → List ℕ
-erlangen6 offset flags =
-    (2 ∷ 50 ∷ 57 ∷ 46 ∷ 48 ∷ 50 ∷ 46 ∷ 50 ∷ 52 ∷ 59 ∷ 32 ∷ 52 ∷ 59 ∷ 32 ∷ 49 ∷ 50 ∷ 58 ∷ 51 ∷ 52 ∷ 58 ∷ 53 ∷ 54 ∷ 59 ∷ 32 ∷ [])
-    ++ offset ++ (59 ∷ 32 ∷ []) ++ flags ++ (59 ∷ 32 ∷ []) ++ position ++ (3 ∷ [])
+erlangen6 offset flags = erlangenAt 29 2 24 4 12 34 56 offset flags
 
 -- `+01:00`
 abbrev pub hourAhead : List ℕ

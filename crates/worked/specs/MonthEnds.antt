@@ -14,31 +14,37 @@ use Rattle.worked.specs.Given.{flagged, at, plus, minus, frameWith, minu
 abbrev sixtyOn : ℕ → ℕ → ℕ → Reading
 sixtyOn y m d = at y m d 23 59 60 (plus 0)
 
--- `U`, a space, `S`, and `A` for leap announced
-abbrev utc : ℕ
-utc = 85
+-- the letters `  U `, `  UA`, `    `, `   A`, `  S ` and `  SA`: the zone, and a leap second announced or not
+abbrev utc : List ℕ
+utc = 32 ∷ 32 ∷ 85 ∷ 32 ∷ []
 
-abbrev space : ℕ
-space = 32
+abbrev utcLeap : List ℕ
+utcLeap = 32 ∷ 32 ∷ 85 ∷ 65 ∷ []
 
-abbrev summer : ℕ
-summer = 83
+abbrev winter : List ℕ
+winter = 32 ∷ 32 ∷ 32 ∷ 32 ∷ []
 
-abbrev announced : ℕ
-announced = 65
+abbrev winterLeap : List ℕ
+winterLeap = 32 ∷ 32 ∷ 32 ∷ 65 ∷ []
+
+abbrev summer : List ℕ
+summer = 32 ∷ 32 ∷ 83 ∷ 32 ∷ []
+
+abbrev summerLeap : List ℕ
+summerLeap = 32 ∷ 32 ∷ 83 ∷ 65 ∷ []
 
 -- `D:29.02.24;T:4;U:23.59.60;  U ` and `D:28.02.24;T:3;U:23.59.60;  U `
 abbrev lastOfFebruary : List ℕ
-lastOfFebruary = meinbergAt 29 2 24 4 23 59 60 utc space
+lastOfFebruary = meinbergAt 29 2 24 4 23 59 60 utc
 
 abbrev dayTooEarly : List ℕ
-dayTooEarly = meinbergAt 28 2 24 3 23 59 60 utc space
+dayTooEarly = meinbergAt 28 2 24 3 23 59 60 utc
 
 -- ---- the bridge
 
 -- `D:30.04.24;T:2;U:23.59.ss;  UA`
 abbrev lastOfApril : ℕ → List ℕ
-lastOfApril s = meinbergAt 30 4 24 2 23 59 s utc announced
+lastOfApril s = meinbergAt 30 4 24 2 23 59 s utcLeap
 
 -- its frame: ones that say the second, then 23:59, day 121 and year 24, then the other ones
 abbrev aprilFrame : List ℕ → List ℕ → List ℕ
@@ -113,17 +119,17 @@ monthEnds =
     -- strings: 29.02.24 `U` is accepted, 28.02.24 is code 9, 28.02.23 is accepted, and so are 31.03. and 30.04.
     ∷ gives (meinberg lastOfFebruary) (toldString (sixtyOn 2024 2 29) false)
     ∷ gives (meinberg dayTooEarly) (refused 9 0)
-    ∷ gives (meinberg (meinbergAt 28 2 23 2 23 59 60 utc space)) (toldString (sixtyOn 2023 2 28) false)
-    ∷ gives (meinberg (meinbergAt 31 3 24 7 23 59 60 utc space)) (toldString (sixtyOn 2024 3 31) false)
-    ∷ gives (meinberg (meinbergAt 30 4 24 2 23 59 60 utc space)) (toldString (sixtyOn 2024 4 30) false)
+    ∷ gives (meinberg (meinbergAt 28 2 23 2 23 59 60 utc)) (toldString (sixtyOn 2023 2 28) false)
+    ∷ gives (meinberg (meinbergAt 31 3 24 7 23 59 60 utc)) (toldString (sixtyOn 2024 3 31) false)
+    ∷ gives (meinberg (meinbergAt 30 4 24 2 23 59 60 utc)) (toldString (sixtyOn 2024 4 30) false)
     -- the same second told at +2, at +4, both on the local next day, and at -14
     ∷ gives (stampOfString lastOfFebruary) (stamped 762575225)
-    ∷ gives (stampOfString (meinbergAt 1 3 24 5 0 59 60 space announced)) (stamped 762575225)
-    ∷ gives (stampOfString (meinbergAt 1 3 24 5 1 59 60 summer announced)) (stamped 762575225)
+    ∷ gives (stampOfString (meinbergAt 1 3 24 5 0 59 60 winterLeap)) (stamped 762575225)
+    ∷ gives (stampOfString (meinbergAt 1 3 24 5 1 59 60 summerLeap)) (stamped 762575225)
     ∷ gives (stamp (at 2024 2 29 16 59 60 (minus 14))) (stamped 762575225)
     -- a local month end that is none of UTC: 29.02.24 at +2, 31.03.24 at +4
-    ∷ gives (meinberg (meinbergAt 29 2 24 4 23 59 60 space space)) (refused 9 0)
-    ∷ gives (meinberg (meinbergAt 31 3 24 7 23 59 60 summer space)) (refused 9 0)
+    ∷ gives (meinberg (meinbergAt 29 2 24 4 23 59 60 winter)) (refused 9 0)
+    ∷ gives (meinberg (meinbergAt 31 3 24 7 23 59 60 summer)) (refused 9 0)
     -- the pending bit, pulse 60: clear at 23:59:00, set at 23:59:01 and 23:59:59, clear at 23:59:60
     ∷ gives (bridged Meinberg (lastOfApril 0) (sevens 100)) (wrote 100 (aprilFrame [] (82 ∷ 86 ∷ 88 ∷ 93 ∷ 95 ∷ 97 ∷ [])))
     ∷ gives (bridged Meinberg (lastOfApril 1) (sevens 100)) (wrote 100 (aprilFrame (1 ∷ []) (60 ∷ 80 ∷ 82 ∷ 86 ∷ 88 ∷ 93 ∷ 95 ∷ 97 ∷ [])))

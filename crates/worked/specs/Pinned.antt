@@ -36,9 +36,9 @@ use Rattle.worked.specs.Given.{
   frame6,
   ones8,
   minute8,
-  three,
   meinberg6,
   position,
+  erlangenAt,
   erlangen6,
   hourAhead,
   noFlags,
@@ -50,9 +50,7 @@ use Rattle.worked.specs.Cases.{string2}
 
 -- STX `31.12.16; 6; 23:mm:ss; +00:00;    !A i; `, 26 spaces of position, ETX: both announced, the byte i
 abbrev lastMinutes : ℕ → ℕ → ℕ → List ℕ
-lastMinutes mi s i =
-    (2 ∷ 51 ∷ 49 ∷ 46 ∷ 49 ∷ 50 ∷ 46 ∷ 49 ∷ 54 ∷ 59 ∷ 32 ∷ 54 ∷ 59 ∷ 32 ∷ []) ++ three 58 23 mi s
-    ++ (59 ∷ 32 ∷ 43 ∷ 48 ∷ 48 ∷ 58 ∷ 48 ∷ 48 ∷ 59 ∷ 32 ∷ 32 ∷ 32 ∷ 32 ∷ 33 ∷ 65 ∷ 32 ∷ i ∷ 59 ∷ 32 ∷ []) ++ position ++ (3 ∷ [])
+lastMinutes mi s i = erlangenAt 31 12 16 6 23 mi s (43 ∷ 48 ∷ 48 ∷ 58 ∷ 48 ∷ 48 ∷ []) (32 ∷ 32 ∷ 32 ∷ 33 ∷ 65 ∷ 32 ∷ i ∷ [])
 
 -- its frame: ones that say second and minute, then hour 23, day 366 and year 16, then the other ones
 abbrev lastFrame : List ℕ → List ℕ → List ℕ

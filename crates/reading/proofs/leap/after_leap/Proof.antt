@@ -1,6 +1,9 @@
 -- `reading::leap::after_leap` meets its contract. Assumes nothing.
+use mathlib.Core.Bool.{Bool, _&&_}
+use mathlib.Core.Path.{ap, _∙_}
+use lib.Dec.{eqb}
 use borrow.Author.Needs.{needs}
-use Rattle.reading.specs.Leap.{afterLeap}
+use Rattle.reading.specs.Leap.{closesWithLeap, afterLeap}
 use Rattle.reading.proofs.leap.after_leap.Statement.{statement}
 use Rattle.reading.proofs.leap.after_leap.Tie as tie
 
@@ -12,7 +15,9 @@ closes-with-leap-requires c κs = search needs
 
 returns : tie.Need-returns
 unfolding afterLeap
-returns c = rw (c .closes-with-leap .ensures, c .before .day-before .ensures)
+returns c =
+    ap (λ (closes : Bool). eqb (c .before .before .before .before .args .utc .minute) 0 && closes)
+    (c .closes-with-leap .ensures ∙ ap closesWithLeap (c .before .day-before .ensures))
 
 pub after-leap-spec : {M : Type 1} → statement M
 after-leap-spec = tie.close (tie.spec day-before-requires closes-with-leap-requires returns)
