@@ -1,5 +1,5 @@
 """Before anything is counted: the proved functions, the C baseline and the second program have to give the same answers, on
-every record that is counted, on damaged ones, and around every month end."""
+every record that is counted, on damaged ones, around every month end, and on inputs with one fault and with several."""
 import subprocess
 import sys
 
@@ -7,6 +7,7 @@ import kit
 import records
 import rows
 import case_months
+import case_places
 from book import listing_text
 from case_parts import bridge_case, case
 
@@ -50,9 +51,11 @@ def cases_of_pulses():
         yield name, [case(op, long)] + [case(op, other) for other in damaged_streams(stream)]
 
 
-def cases_of_month_ends():
-    """The leap rule at every month end: the second program's own cases, as far as the C baseline answers them."""
-    yield "month ends", [one for one in case_months.make() if one[0] in ANSWERED_IN_C]
+def cases_of_second():
+    """The leap rule at every month end, and codes and places: the second program's own cases, as far as the C baseline answers
+    them."""
+    for name, make in (("month ends", case_months.make), ("codes and places", case_places.make)):
+        yield name, [one for one in make() if one[0] in ANSWERED_IN_C]
 
 
 def second_answers(given):
@@ -71,7 +74,7 @@ def first_difference(cases, answers):
 def compare(ours, plain, length):
     """Stops where two of the three differ; else the number of cases."""
     total = 0
-    for name, cases in [*cases_of_records(length), *cases_of_pulses(), *cases_of_month_ends()]:
+    for name, cases in [*cases_of_records(length), *cases_of_pulses(), *cases_of_second()]:
         given = b"".join(cases)
         outputs = (kit.output_of(ours, given), kit.output_of(plain, given), second_answers(given))
         answers = [output.split(b"\n") for output in outputs]
@@ -82,10 +85,11 @@ def compare(ours, plain, length):
 
 
 def compare_listings(programs, length):
-    """The same for the listing program: a book, books cut short, some changes of a small one, and a book of each month end."""
+    """The same for the listing program: a book, books cut short, some changes of a small one, and the second program's own
+    books of month ends and of faults."""
     whole, small = records.book(length), records.book(10)
     books = [b"", whole, whole + bytes(65537), *(whole[:end] for end in range(0, len(whole), 997)), *damaged(small, 1009)]
-    books += [one[3:] for one in case_months.make() if one[0] == BOOK]
+    books += [one[3:] for one in (*case_months.make(), *case_places.make()) if one[0] == BOOK]
     for one in books:
         wrote = [kit.output_of(program, one) for program in programs] + [listing_text(one).encode()]
         if any(text != wrote[0] for text in wrote):

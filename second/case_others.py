@@ -2,7 +2,7 @@
 
 import random
 from datetime import datetime, timedelta
-from typing import Iterator, List
+from typing import Iterator, List, Tuple
 
 from case_parts import (LARGEST_PAYLOAD, PLAIN, POSITION, REAL_LEAP_DAYS, bridge_case, case, local,
                         mend_frame, mend_minute, raw_erlangen, raw_frame, raw_meinberg, raw_minute,
@@ -96,8 +96,23 @@ def bridges() -> Iterator[bytes]:
     yield case(10, b"\x01\x64")
 
 
+def two_faults() -> List[Tuple[int, bytes]]:
+    """Bodies of every kind in which two fields are wrong, by one code or by two."""
+    minute = raw_minute(PLAIN)
+    return [(1, raw_meinberg(PLAIN._replace(hour=24, month=13))),
+            (1, raw_meinberg(PLAIN._replace(day=31, month=13), weekday=0)),
+            (2, raw_erlangen(PLAIN._replace(minute=60, second=61))),
+            (2, raw_erlangen(PLAIN._replace(day=0, month=13))),
+            (3, raw_frame(second=61, hour=25)), (3, raw_frame(day_of_year=0, second_of_day=1)),
+            (3, mend_frame(with_pulses(raw_frame(), (56, 58, 36, 38), 1))),
+            (4, raw_minute(PLAIN, hour=24, month=13)), (4, raw_minute(PLAIN, weekday=0, month=13)),
+            (4, with_pulses(with_pulses(minute, (35,), 1 - minute[35]), (58,), 1 - minute[58])),
+            (5, raw_minute(PLAIN, length=61, day=31, month=13))]
+
+
 def book_records() -> List[bytes]:
-    """Whole records of every kind: accepted, refused by every code, and with a refused stamp."""
+    """Whole records of every kind: accepted, refused by every code, with a refused stamp, and with
+    two faults."""
     long = local(datetime(2017, 1, 1), 2, leap=True)
     early = Reading(2000, 1, 1, 0, 30, 0, 2, False, False, False, 0)  # case 9
     late = Reading(2099, 12, 31, 23, 0, 0, -24, False, False, False, 0)
@@ -124,6 +139,7 @@ def book_records() -> List[bytes]:
                (4, mend_minute(with_pulses(minute, (45, 46, 48), 1)))]
     bodies += [(5, raw_minute(reading, 7, 61)) for reading in (PLAIN, long, early)]
     bodies += [(5, with_pulses(raw_minute(long), (59,), 1))]
+    bodies += two_faults()
     return [bytes((kind,)) + bytes(body) for kind, body in bodies]
 
 

@@ -8,6 +8,7 @@ import case_frames
 import case_minutes
 import case_months
 import case_others
+import case_places
 import case_random
 import case_streams
 import case_strings
@@ -18,6 +19,7 @@ NAMED = {
     "frames": case_frames.make,
     "minutes": case_minutes.make,
     "months": case_months.make,
+    "places": case_places.make,
     "stamps": case_others.stamps,
     "bridges": case_others.bridges,
     "streams": case_streams.make,

@@ -1,9 +1,10 @@
 """Self tests: document 01's cases and its listing, round trips and untouched memory over all named
-streams, and that every op gives exactly the refusal codes the papers allow it."""
+streams, and that every op gives exactly the refusal codes, each at exactly the places, that the
+papers allow it."""
 
 import random
 import sys
-from typing import Dict, Iterator, List, Set
+from typing import Dict, Set, Tuple
 
 import answers
 import book
@@ -15,6 +16,8 @@ import erlangen
 import ieee1344
 import meinberg
 from bridge import bridge
+from check_places import PLACES, check_places, check_seen, refusals_in
+from checks import Checks
 from pulse_readers import FrameReader
 from reading import Reading, Refusal, Told, stamp, utc_minute
 
@@ -31,27 +34,7 @@ SIXTY_STAMPED = {b"\x02D:29.02.24;T:4;U:23.59.60;  UA\x03": 762575225,
                  b"\x02D:30.04.24;T:2;U:23.59.60;  U \x03": 767845686}
 SIXTY_REFUSED = (b"\x02D:28.02.24;T:3;U:23.59.60;  UA\x03", b"\x02D:29.02.24;T:4;U:23.59.60;   A\x03",
                  b"\x02D:31.03.24;T:7;U:23.59.60;  SA\x03")
-# op -> every code it can give; each must occur in the named streams, and no other may.
-CODES = {1: {1, 2, 5, 6, 9}, 2: {1, 2, 5, 6, 8, 9}, 3: {1, 2, 3, 4, 5, 7, 8, 9, 10},
-         4: {1, 2, 3, 4, 5, 6, 8, 9}, 5: {1, 5, 8, 9, 11}, 6: {1, 2, 5, 8, 9, 11},
-         7: {1, 5, 8, 9}, 8: {1, 5, 8, 9, 11}, 9: {5, 8, 9, 12}, 10: {1, 2, 5, 6, 8, 9},
-         11: {2, 3, 4, 5, 7, 8, 9, 10}, 12: {2, 3, 4, 5, 6, 8, 9},
-         13: {2, 3, 4, 5, 6, 7, 8, 9, 10, 12, 13, 14}, 14: set()}
 FILLED = bytes([answers.FILLING])
-
-
-class Checks:
-    """Counts the checks and remembers the failed ones."""
-
-    def __init__(self) -> None:
-        self.passed = 0
-        self.failed: List[str] = []
-
-    def that(self, holds: bool, what: str) -> None:
-        if holds:
-            self.passed += 1
-        else:
-            self.failed.append(what)
 
 
 def frame_of(reading: Reading) -> bytes:
@@ -75,7 +58,8 @@ def check_dates(check: Checks) -> None:
     check.that(stamp(moment(2017, 1, 2, 0, 59, 60, 2)) == Refusal(9), "case 4")
     good = b"\x02D:29.02.24;T:4;U:12.34.56;    \x03"
     check.that(isinstance(meinberg.read(good), Told), "case 5, 2024")
-    check.that(meinberg.read(good.replace(b"24;T", b"23;T")) == Refusal(5), "case 5, 2023")
+    check.that(meinberg.read(good.replace(b"24;T", b"23;T")) == Refusal(16, 3),
+               "case 5, 2023")
     early = moment(2000, 1, 1, 0, 30, 0, 2)
     check.that(isinstance(ieee1344.read(frame_of(early)), Told), "case 9, accepted")
     check.that(stamp(early) == Refusal(12), "case 9, stamp")
@@ -88,7 +72,7 @@ def check_month_ends(check: Checks) -> None:
         told = meinberg.read(string)
         check.that(isinstance(told, Told) and stamp(told.reading) == value, "accepted %r" % string)
     for string in SIXTY_REFUSED:
-        check.that(meinberg.read(string) == Refusal(9), "refused %r" % string)
+        check.that(meinberg.read(string) == Refusal(9, 24), "refused %r" % string)
     for second, pending in (("00", 0), ("01", 1), ("59", 1), ("60", 0)):
         frame = bytearray(ieee1344.LENGTH)
         string = ("\x02D:30.04.24;T:2;U:23.59.%s;  UA\x03" % second).encode()
@@ -98,7 +82,7 @@ def check_month_ends(check: Checks) -> None:
     marks = bytearray(61)
     check.that(dcf77.write(first, 0, marks) == 61, "1 March, written")
     check.that(dcf77.read(bytes(marks)) == Told(first, 0) and stamp(first) == 762575226, "1 March")
-    check.that(dcf77.read(bytes(marks[:59] + marks[60:])) == Refusal(9), "1 March in 60 marks")
+    check.that(dcf77.read(bytes(marks[:59] + marks[60:])) == Refusal(9, 59), "1 March in 60 marks")
 
 
 def check_frames(check: Checks) -> None:
@@ -107,7 +91,7 @@ def check_frames(check: Checks) -> None:
     check.that([place for place in range(100) if frame[place] == 1] == CASE_SIX_ONES, "case 6")
     check.that(ieee1344.read(frame) == Told(CASE_SIX), "case 6, read")
     cleared = frame[:84] + b"\x00" + frame[85:]
-    check.that(ieee1344.read(cleared) == Refusal(7), "case 7")
+    check.that(ieee1344.read(cleared) == Refusal(7, 80), "case 7")
     minute = bytearray(60)
     check.that(dcf77.write(CASE_SIX._replace(second=0), 0, minute) == 60, "case 8, length")
     check.that([place for place in range(60) if minute[place] == 1] == CASE_EIGHT_ONES, "case 8")
@@ -190,34 +174,27 @@ def check_round_trip(check: Checks, op: int, payload: bytes, line: str) -> None:
                 check.that(erlangen.position_part(output[:length]) == payload[15:], "part " + line)
 
 
-def codes_in(op: int, line: str) -> Iterator[int]:
-    """The refusal codes of an answer line."""
-    if op == 13:
-        for record in line.split("|"):
-            words = record.split()
-            if len(words) == 5 and words[2] == "no":
-                yield int(words[3])
-    elif op in (11, 12):
-        for word in line.split()[1:]:
-            parts = word.split(":")[1].split(",")
-            if parts[0] == "no":
-                yield int(parts[1])
-    elif line.startswith("no "):
-        yield int(line.split()[1])
-
-
 def check_changes(check: Checks, op: int, payload: bytes, line: str) -> None:
-    """Every change is counted, and no one-byte change of a good frame is accepted."""
+    """Every change is counted, refused as the op's reader may refuse, and no one-byte change of a
+    good frame is accepted."""
     words = line.split()
-    listed = len(words) - 3
-    check.that(listed + int(words[-1]) == 255 * len(payload), "count of changes")
+    listed = [word.split("=")[1] for word in words[1:-2]]
+    check.that(len(listed) + int(words[-1]) == 255 * len(payload), "count of changes")
+    refused = [tuple(map(int, word.split("."))) for word in listed if word != "time"]
+    places = PLACES[op - 19]
+    check.that(all(place in places.get(code, ()) for code, place in refused), "a change's refusal")
     if op == 22:
-        check.that(not any(word.endswith("=time") for word in words), "a changed frame accepted")
+        check.that("time" not in listed, "a changed frame accepted")
+
+
+def allowed(op: int, line: str) -> bool:
+    """Whether the papers allow each refusal of an answer line, its code and its place."""
+    return all(place in PLACES[op].get(code, ()) for code, place in refusals_in(op, line))
 
 
 def check_streams(check: Checks) -> None:
-    """Runs every named stream and a random one; afterwards looks at the codes that came."""
-    seen: Dict[int, Set[int]] = {op: set() for op in CODES}
+    """Runs every named stream and a random one; afterwards looks at the refusals that came."""
+    seen: Dict[int, Set[Tuple[int, int]]] = {op: set() for op in PLACES}
     streams = {name: b"".join(make()) for name, make in cases.NAMED.items()}
     streams["random"] = b"".join(case_random.make(3, 4000))
     for name, stream in streams.items():
@@ -228,21 +205,19 @@ def check_streams(check: Checks) -> None:
             check_round_trip(check, op, payload, line)
             if op >= 20:
                 check_changes(check, op, payload, line)
-            elif name != "random":
-                seen[op].update(codes_in(op, line))
-            else:
-                check.that(CODES[op].issuperset(codes_in(op, line)), "a strange code: " + line)
+                continue
+            check.that(allowed(op, line), "a strange refusal: " + line)
+            if name != "random":
+                seen[op].update(refusals_in(op, line))
         again = b"".join(cases.NAMED[name]()) if name in cases.NAMED else stream
         check.that(again == stream, "%s is not deterministic" % name)
-    for op, codes in CODES.items():
-        check.that(seen[op] == codes, "codes of op %d: %s" % (op, sorted(seen[op])))
-    check.that(set().union(*seen.values()) == set(range(1, 15)), "every code of the table")
+    check_seen(check, seen)
 
 
 def main() -> None:
     check = Checks()
     for part in (check_dates, check_month_ends, check_frames, check_layouts, check_listing,
-                 check_order, check_streams):
+                 check_places, check_order, check_streams):
         part(check)
     for what in check.failed[:50]:
         print("failed: " + what)

@@ -1,12 +1,12 @@
 """The DCF77 minute: 60 or 61 marks, 0 short, 1 long, 2 missing; it names the minute after it.
 Reads and writes it from a dictionary of fields, each a list of (mark, weight)."""
 
-from typing import Union
+from typing import Optional, Union
 
-from layout import (digit_over_nine, digits_that_can_exceed, field_value, form_refusal,
-                    ones_are_odd, put_field)
-from reading import (FIRST_YEAR, Answer, Reading, Refusal, Told, after_leap_minute,
-                     fields_refusal, reading_refusal, weekday)
+from layout import (digit_refusal, digits_that_can_exceed, field_value, form_refusal, ones_are_odd,
+                    parity_refusal, put_field)
+from reading import (FIRST_YEAR, Answer, Reading, Refusal, Told, after_leap_minute, date_refusal,
+                     fields_refusal, reading_refusal, time_refusal, weekday)
 
 LENGTH = 60
 LARGEST_PLACE = 59
@@ -28,6 +28,8 @@ FIELDS = {
     "year": [(50, 1), (51, 2), (52, 4), (53, 8), (54, 10), (55, 20), (56, 40), (57, 80)],
 }
 DIGITS = digits_that_can_exceed(FIELDS[name] for name in ("minute", "hour", "day", "month", "year"))
+# Field -> its first mark; the zone's is that of summer
+PLACES = {name: field[0][0] for name, field in FIELDS.items()}
 PARITY_GROUPS = {28: range(21, 29), 35: range(29, 36), 58: range(36, 59)}
 # (summer zone, winter zone) -> (offset in half hours, summer)
 ZONES = {(0, 1): (2, False), (1, 0): (4, True)}
@@ -52,36 +54,43 @@ def is_long(reading: Reading) -> bool:
     return bool(reading.leap) and after_leap_minute(reading)
 
 
-def read(marks: bytes) -> Answer:
-    """The reading of the named minute with the head beside it, or the lowest refusal."""
+def marks_refusal(marks: bytes) -> Optional[Refusal]:
+    """Codes 1 to 4: what is wrong before any field means anything."""
     if len(marks) not in ALLOWED:
         return Refusal(1)
-    refusal = form_refusal(marks, ALLOWED[len(marks)])
+    return (form_refusal(marks, ALLOWED[len(marks)]) or digit_refusal(marks, DIGITS)
+            or parity_refusal(marks, PARITY_GROUPS))
+
+
+def read(marks: bytes) -> Answer:
+    """The reading of the named minute with the head beside it, or the first refusal."""
+    refusal = marks_refusal(marks)
     if refusal is not None:
         return refusal
-    if digit_over_nine(marks, DIGITS):
-        return Refusal(3)
-    if any(ones_are_odd(marks, group) for group in PARITY_GROUPS.values()):
-        return Refusal(4)
     said = {name: field_value(marks, field) for name, field in FIELDS.items()}
     reading = Reading(FIRST_YEAR + said["year"], said["month"], said["day"], said["hour"],
                       said["minute"], 0, 0, False, bool(said["leap"]), bool(said["change"]), 0)
-    if fields_refusal(reading) or not 1 <= said["weekday"] <= 7:
-        return Refusal(5)
-    if said["weekday"] != weekday(reading):
-        return Refusal(6)
+    # No mark says the second, which is 0 and never wrong.
+    refusal = time_refusal(reading, PLACES) or date_refusal(reading, said["weekday"], PLACES)
+    if refusal is not None:
+        return refusal
     zone = ZONES.get((said["summer zone"], said["winter zone"]))
     if zone is None:
-        return Refusal(8)
+        return Refusal(8, PLACES["summer zone"])
     reading = reading._replace(offset=zone[0], summer=zone[1])
     if is_long(reading) != (len(marks) == LONG_LENGTH):
-        return Refusal(9)
+        return Refusal(9, len(marks) - 1)
     return Told(reading, said["head"])
 
 
 def cannot_carry(reading: Reading) -> bool:
     return (reading.second != 0 or reading.quality != 0
             or (reading.offset, reading.summer) not in ZONES.values())
+
+
+def head_refusal(head: int) -> Optional[Refusal]:
+    """Code 17, which a quality out of range has too."""
+    return None if 0 <= head <= LARGEST_HEAD else Refusal(17)
 
 
 def said_of(reading: Reading, head: int) -> dict:
@@ -109,9 +118,7 @@ def write(reading: Reading, head: int, output: bytearray) -> Union[int, Refusal]
     """Writes 60 or 61 marks at the start of the output; a refusal leaves it as it was."""
     if len(output) < LENGTH:
         return Refusal(1)
-    if fields_refusal(reading) or not 0 <= head <= LARGEST_HEAD:
-        return Refusal(5)
-    refusal = reading_refusal(reading)
+    refusal = fields_refusal(reading) or head_refusal(head) or reading_refusal(reading)
     if refusal is not None:
         return refusal
     if cannot_carry(reading):

@@ -5,7 +5,8 @@ from typing import Optional, Union
 
 from layout import form_refusal, text_number
 from reading import (FAILED, FIRST_YEAR, LOCKED, Answer, Reading, Refusal, Told,
-                     fields_refusal, offset_refusal, reading_refusal, second_refusal, weekday)
+                     date_refusal, offset_refusal, reading_refusal, second_refusal, time_refusal,
+                     weekday)
 
 LENGTH = 68
 LARGEST_PLACE = 67
@@ -20,6 +21,10 @@ CHARACTERS = {"d": DIGIT, "m": DIGIT, "y": DIGIT, "w": DIGIT, "h": DIGIT, "n": D
 PICTURE = "\x02dd.mm.yy; w; hh:nn:ss; voo:oo; acS!A L; " + "p" * POSITION_LENGTH + "\x03"
 ALLOWED = [frozenset(CHARACTERS.get(mark, mark).encode("ascii")) for mark in PICTURE]
 PRINTABLE_BYTES = frozenset(PRINTABLE.encode("ascii"))
+# Field -> its first byte; the offset's is its sign
+PLACES = {name: PICTURE.index(mark) for name, mark in (
+    ("day", "d"), ("month", "m"), ("year", "y"), ("weekday", "w"), ("hour", "h"), ("minute", "n"),
+    ("second", "s"), ("offset", "v"))}
 
 
 def said_offset(data: bytes) -> Optional[int]:
@@ -36,7 +41,7 @@ def said_offset(data: bytes) -> Optional[int]:
 
 
 def read(data: bytes) -> Answer:
-    """The reading with coasting beside it, or the lowest refusal."""
+    """The reading with coasting beside it, or the first refusal."""
     refusal = form_refusal(data, ALLOWED)
     if refusal is not None:
         return refusal
@@ -45,18 +50,17 @@ def read(data: bytes) -> Answer:
         text_number(data, 14), text_number(data, 17), text_number(data, 20),
         0, data[34] == ord("S"), data[36] == ord("A"), data[35] == ord("!"),
         FAILED if data[32] == ord("#") else LOCKED)
-    said_weekday = text_number(data, 11, 1)
-    if fields_refusal(reading) or not 1 <= said_weekday <= 7:
-        return Refusal(5)
-    if said_weekday != weekday(reading):
-        return Refusal(6)
+    refusal = (time_refusal(reading, PLACES)
+               or date_refusal(reading, text_number(data, PLACES["weekday"], 1), PLACES))
+    if refusal is not None:
+        return refusal
     offset = said_offset(data)
     if offset is None:
-        return Refusal(8)
+        return Refusal(8, PLACES["offset"])
     reading = reading._replace(offset=offset)
     if (data[38] == ord("L")) != (reading.second == 60):
-        return Refusal(9)
-    return second_refusal(reading) or Told(reading, data[33] == ord("*"))
+        return Refusal(9, PLACES["second"])
+    return second_refusal(reading, PLACES["second"]) or Told(reading, data[33] == ord("*"))
 
 
 def position_part(data: bytes) -> bytes:

@@ -4,10 +4,10 @@ Reads and writes it from a dictionary of fields, each a list of (pulse, weight).
 from datetime import timedelta, date
 from typing import Optional, Union
 
-from layout import (digit_over_nine, digits_that_can_exceed, field_value, form_refusal,
-                    ones_are_odd, put_field)
-from reading import (FIRST_YEAR, Answer, Reading, Refusal, Told, fields_refusal, offset_refusal,
-                     reading_refusal, second_of_day, second_refusal)
+from layout import (digit_refusal, digits_that_can_exceed, field_value, form_refusal, ones_are_odd,
+                    parity_refusal, put_field)
+from reading import (FIRST_YEAR, Answer, Reading, Refusal, Told, lowest_refusal, offset_refusal,
+                     reading_refusal, second_of_day, second_refusal, wrong_in_time)
 
 LENGTH = 100
 LARGEST_PLACE = 99
@@ -34,6 +34,8 @@ FIELDS = {
 }
 DIGITS = digits_that_can_exceed(
     FIELDS[name] for name in ("second", "minute", "hour", "day of year", "year"))
+# Field -> its first pulse; the offset's is its sign
+PLACES = {name: field[0][0] for name, field in FIELDS.items()}
 PARITY_PLACES = [place for place in range(1, 76) if place not in MARKS]
 DATA_PLACES = frozenset(pulse for field in FIELDS.values() for pulse, _ in field)
 
@@ -62,33 +64,36 @@ def said_added(pulses: bytes) -> Optional[int]:
     return -size if size else None
 
 
+def pulses_refusal(pulses: bytes) -> Optional[Refusal]:
+    """Codes 1 to 4: what is wrong before any field means anything."""
+    return (form_refusal(pulses, ALLOWED) or digit_refusal(pulses, DIGITS)
+            or parity_refusal(pulses, {PLACES["parity"]: PARITY_PLACES}))
+
+
 def read(pulses: bytes) -> Answer:
-    """The reading, or the lowest refusal."""
-    refusal = form_refusal(pulses, ALLOWED)
+    """The reading, or the first refusal."""
+    refusal = pulses_refusal(pulses)
     if refusal is not None:
         return refusal
-    if digit_over_nine(pulses, DIGITS):
-        return Refusal(3)
-    if ones_are_odd(pulses, PARITY_PLACES):
-        return Refusal(4)
     said = {name: field_value(pulses, field) for name, field in FIELDS.items()}
+    clock = (said["hour"], said["minute"], said["second"])
+    refusal = lowest_refusal(15, wrong_in_time(*clock), PLACES)
+    if refusal is not None:
+        return refusal
     day = date_of_day(FIRST_YEAR + said["year"], said["day of year"])
     if day is None:
-        return Refusal(5)
-    reading = Reading(day.year, day.month, day.day, said["hour"], said["minute"], said["second"],
-                      0, bool(said["summer"]), bool(said["leap pending"]),
-                      bool(said["change pending"]), said["quality"])
-    if fields_refusal(reading):
-        return Refusal(5)
-    if said["second of day"] != second_of_day(reading.hour, reading.minute, reading.second):
-        return Refusal(7)
+        return Refusal(16, PLACES["day of year"])
+    if said["second of day"] != second_of_day(*clock):
+        return Refusal(7, PLACES["second of day"])
     added = said_added(pulses)
     if added is None or offset_refusal(-added):
-        return Refusal(8)
-    reading = reading._replace(offset=-added)
-    if second_refusal(reading):
-        return Refusal(9)
-    return Refusal(10) if said["deletion"] else Told(reading)
+        return Refusal(8, PLACES["minus"])
+    reading = Reading(day.year, day.month, day.day, *clock, -added, bool(said["summer"]),
+                      bool(said["leap pending"]), bool(said["change pending"]), said["quality"])
+    refusal = second_refusal(reading, PLACES["second"])
+    if refusal is None and said["deletion"]:
+        refusal = Refusal(10, PLACES["deletion"])
+    return refusal or Told(reading)
 
 
 def said_of(reading: Reading) -> dict:

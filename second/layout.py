@@ -1,7 +1,7 @@
 """Small tools shared by the formats: lowest bad place, text numbers, and pulse fields.
 A pulse field is a list of (pulse, weight); its value is the sum of the weights of its ones."""
 
-from typing import FrozenSet, Iterable, List, Optional, Sequence, Tuple
+from typing import FrozenSet, Iterable, List, Mapping, Optional, Sequence, Tuple
 
 from reading import Refusal
 
@@ -56,15 +56,24 @@ def decimal_digits(field: Field) -> List[Tuple[int, Field]]:
     return digits
 
 
-def digits_that_can_exceed(fields: Iterable[Field]) -> List[Tuple[int, Field]]:
-    """The digits, of BCD fields, that have all four weights: (largest good value, part)."""
-    return [(9 * unit, part) for field in fields for unit, part in decimal_digits(field)
-            if len(part) == 4]
+def digits_that_can_exceed(fields: Iterable[Field]) -> List[Tuple[int, int, Field]]:
+    """The digits, of BCD fields, that have all four weights: (the field's first pulse, largest good
+    value, part)."""
+    return [(field[0][0], 9 * unit, part) for field in fields
+            for unit, part in decimal_digits(field) if len(part) == 4]
 
 
-def digit_over_nine(pulses: bytes, digits: Sequence[Tuple[int, Field]]) -> bool:
-    return any(field_value(pulses, part) > largest for largest, part in digits)
+def digit_refusal(pulses: bytes, digits: Sequence[Tuple[int, int, Field]]) -> Optional[Refusal]:
+    """Code 3 at the first pulse of the lowest field that has a digit over nine."""
+    places = [place for place, largest, part in digits if field_value(pulses, part) > largest]
+    return Refusal(3, min(places)) if places else None
 
 
 def ones_are_odd(pulses: bytes, places: Iterable[int]) -> bool:
     return sum(pulses[place] for place in places) % 2 == 1
+
+
+def parity_refusal(pulses: bytes, groups: Mapping[int, Iterable[int]]) -> Optional[Refusal]:
+    """Code 4 at the lowest parity whose group, the parity in it, has an odd number of ones."""
+    places = [parity for parity, group in groups.items() if ones_are_odd(pulses, group)]
+    return Refusal(4, min(places)) if places else None

@@ -5,7 +5,7 @@ from typing import Union
 
 from layout import form_refusal, text_number
 from reading import (FAILED, FIRST_YEAR, LOCKED, Answer, Reading, Refusal, Told,
-                     fields_refusal, reading_refusal, second_refusal, weekday)
+                     date_refusal, reading_refusal, second_refusal, time_refusal, weekday)
 
 LENGTH = 32
 LARGEST_PLACE = 31
@@ -15,6 +15,10 @@ CHARACTERS = {"d": DIGIT, "m": DIGIT, "y": DIGIT, "w": DIGIT, "h": DIGIT, "i": D
               "q": "# ", "c": "* ", "z": "U S", "a": "!A "}
 PICTURE = "\x02D:dd.mm.yy;T:w;U:hh.ii.ss;qcza\x03"
 ALLOWED = [frozenset(CHARACTERS.get(mark, mark).encode("ascii")) for mark in PICTURE]
+# Field -> its first byte
+PLACES = {name: PICTURE.index(mark) for name, mark in (
+    ("day", "d"), ("month", "m"), ("year", "y"), ("weekday", "w"), ("hour", "h"), ("minute", "i"),
+    ("second", "s"))}
 # Zone letter -> (offset in half hours, summer)
 ZONES = {"U": (0, False), " ": (2, False), "S": (4, True)}
 # Announcement letter -> (leap, change)
@@ -22,7 +26,7 @@ ANNOUNCEMENTS = {"!": (False, True), "A": (True, False), " ": (False, False)}
 
 
 def read(data: bytes) -> Answer:
-    """The reading with coasting beside it, or the lowest refusal."""
+    """The reading with coasting beside it, or the first refusal."""
     refusal = form_refusal(data, ALLOWED)
     if refusal is not None:
         return refusal
@@ -32,12 +36,10 @@ def read(data: bytes) -> Answer:
         FIRST_YEAR + text_number(data, 9), text_number(data, 6), text_number(data, 3),
         text_number(data, 18), text_number(data, 21), text_number(data, 24),
         offset, summer, leap, change, FAILED if data[27] == ord("#") else LOCKED)
-    said_weekday = text_number(data, 14, 1)
-    if fields_refusal(reading) or not 1 <= said_weekday <= 7:
-        return Refusal(5)
-    if said_weekday != weekday(reading):
-        return Refusal(6)
-    return second_refusal(reading) or Told(reading, data[28] == ord("*"))
+    return (time_refusal(reading, PLACES)
+            or date_refusal(reading, text_number(data, PLACES["weekday"], 1), PLACES)
+            or second_refusal(reading, PLACES["second"])
+            or Told(reading, data[28] == ord("*")))
 
 
 def cannot_carry(reading: Reading) -> bool:

@@ -1,14 +1,17 @@
 """The reading (local time, offset, flags), its refusals, its UTC, the leap rule and the stamp.
-The calendar is Python's own datetime; everything else is taken from document 01, the leap rule from
-request L3, which amends it: a leap second may close any UTC month."""
+The calendar is Python's own datetime; everything else is taken from document 01 as two requests
+amend it. L3: a leap second may close any UTC month. L5: a time, a date, and a quality or head out of
+range have a code each, 15, 16 and 17 where 5 stood, and a reader's refusal gives a field's place."""
 
 from datetime import date, datetime, timedelta
-from typing import NamedTuple, Optional, Union
+from typing import List, Mapping, NamedTuple, Optional, Sequence, Union
 
 FIRST_YEAR = 2000
 LAST_YEAR = 2099
 LOWEST_OFFSET = -24  # half hours, local minus UTC
 HIGHEST_OFFSET = 28
+LARGEST_IN_TIME = {"hour": 23, "minute": 59, "second": 60}
+LONGEST_MONTH = 31
 LARGEST_QUALITY = 15
 FAILED = 15
 LOCKED = 0
@@ -34,7 +37,9 @@ class Reading(NamedTuple):
 
 
 class Refusal(NamedTuple):
-    """Why something was not taken: document 01's code, and the place (0 but for code 2)."""
+    """Why something was not taken: the papers' code, and the place. A reader gives the lowest bad
+    byte for code 2, the first byte of the lowest wrong field for others, and 0 for code 1; writers
+    and stamping give 0, but for a byte of the position part."""
 
     code: int
     place: int = 0
@@ -50,26 +55,64 @@ class Told(NamedTuple):
 Answer = Union[Told, Refusal]
 
 
-def date_of(year: int, month: int, day: int) -> Optional[date]:
-    """The date if it exists and lies in 2000..2099."""
-    if not FIRST_YEAR <= year <= LAST_YEAR:
-        return None
+def exists(year: int, month: int, day: int) -> bool:
+    """Whether the calendar has the date."""
     try:
-        return date(year, month, day)
+        date(year, month, day)
     except ValueError:
-        return None
+        return False
+    return True
+
+
+def wrong_in_time(hour: int, minute: int, second: int) -> List[str]:
+    """The fields of a time that are out of range: code 15."""
+    said = {"hour": hour, "minute": minute, "second": second}
+    return [name for name, largest in LARGEST_IN_TIME.items() if not 0 <= said[name] <= largest]
+
+
+def wrong_in_date(year: int, month: int, day: int) -> List[str]:
+    """The fields of a date that are out of range: code 16. Where a month lacks the day, the day is
+    wrong; under a wrong month a day is wrong only outside 1..31."""
+    wrong = []
+    if not FIRST_YEAR <= year <= LAST_YEAR:
+        wrong.append("year")
+    if not 1 <= month <= 12:
+        wrong.append("month")
+    if not 1 <= day <= LONGEST_MONTH or (not wrong and not exists(year, month, day)):
+        wrong.append("day")
+    return wrong
+
+
+def lowest_refusal(code: int, wrong: Sequence[str],
+                   places: Mapping[str, int]) -> Optional[Refusal]:
+    """The code at the lowest of the wrong fields' places; nothing where none is wrong."""
+    return Refusal(code, min(places[name] for name in wrong)) if wrong else None
+
+
+def time_refusal(reading: Reading, places: Mapping[str, int]) -> Optional[Refusal]:
+    """Code 15 of a time that was read."""
+    wrong = wrong_in_time(reading.hour, reading.minute, reading.second)
+    return lowest_refusal(15, wrong, places)
+
+
+def date_refusal(reading: Reading, said_weekday: int,
+                 places: Mapping[str, int]) -> Optional[Refusal]:
+    """Codes 16 and 6 of a date and a weekday that were read."""
+    wrong = wrong_in_date(reading.year, reading.month, reading.day)
+    if not 1 <= said_weekday <= 7:
+        wrong.append("weekday")
+    if not wrong and said_weekday != weekday(reading):
+        return Refusal(6, places["weekday"])
+    return lowest_refusal(16, wrong, places)
 
 
 def fields_refusal(reading: Reading) -> Optional[Refusal]:
-    """Code 5: a field or the date is out of range (the offset has its own code)."""
-    good = (
-        date_of(reading.year, reading.month, reading.day) is not None
-        and 0 <= reading.hour <= 23
-        and 0 <= reading.minute <= 59
-        and 0 <= reading.second <= 60
-        and 0 <= reading.quality <= LARGEST_QUALITY
-    )
-    return None if good else Refusal(5)
+    """Codes 15, 16 and 17 of a reading to be written or stamped (the offset has its own code)."""
+    if wrong_in_time(reading.hour, reading.minute, reading.second):
+        return Refusal(15)
+    if wrong_in_date(reading.year, reading.month, reading.day):
+        return Refusal(16)
+    return None if 0 <= reading.quality <= LARGEST_QUALITY else Refusal(17)
 
 
 def offset_refusal(offset: int) -> Optional[Refusal]:
@@ -98,13 +141,14 @@ def after_leap_minute(reading: Reading) -> bool:
     return starts_month(utc_minute(reading))
 
 
-def second_refusal(reading: Reading) -> Optional[Refusal]:
+def second_refusal(reading: Reading, place: int = 0) -> Optional[Refusal]:
     """Code 9: second 60 outside the leap minute."""
-    return Refusal(9) if reading.second == 60 and not in_leap_minute(reading) else None
+    wrong = reading.second == 60 and not in_leap_minute(reading)
+    return Refusal(9, place) if wrong else None
 
 
 def reading_refusal(reading: Reading) -> Optional[Refusal]:
-    """Codes 5, 8, 9 in that order: what every writer and the stamp ask of a reading."""
+    """Codes 15, 16, 17, 8, 9 in that order: what every writer and the stamp ask of a reading."""
     return fields_refusal(reading) or offset_refusal(reading.offset) or second_refusal(reading)
 
 
@@ -118,7 +162,8 @@ def second_of_day(hour: int, minute: int, second: int) -> int:
 
 
 def stamp(reading: Reading) -> Union[int, Refusal]:
-    """UTC day number times 86401 plus UTC second of the day, or a refusal by 5, 8, 9 or 12."""
+    """UTC day number times 86401 plus UTC second of the day, or a refusal by 15, 16, 17,
+    8, 9 or 12."""
     refusal = reading_refusal(reading)
     if refusal is not None:
         return refusal

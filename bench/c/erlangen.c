@@ -4,7 +4,7 @@
 
 static const char date_and_time[] = "\x02" "00.00.00; 0; 00:00:00; ";
 static const char offset_digits[] = "00:00; ";
-enum { SIGN = 24, OFFSET = 25, LETTERS = 32, LAST = ERLANGEN_LENGTH - 1 };
+enum { DATE = 1, WEEKDAY = 11, TIME = 14, SECOND = 20, SIGN = 24, OFFSET = 25, LETTERS = 32, LAST = ERLANGEN_LENGTH - 1 };
 
 static bool is_printable(uint8_t c) { return c >= 32 && c <= 126; }
 
@@ -56,7 +56,7 @@ struct answer erlangen_read(const uint8_t *s, size_t length, struct reading *r, 
         return refused(WRONG_LENGTH);
     size_t bad = first_bad_place(s);
     if (bad < ERLANGEN_LENGTH)
-        return refused_at(bad);
+        return refused_at(WRONG_BYTE, bad);
     r->day = two_digits(s + 1);
     r->month = two_digits(s + 4);
     r->year = 2000 + two_digits(s + 7);
@@ -67,15 +67,13 @@ struct answer erlangen_read(const uint8_t *s, size_t length, struct reading *r, 
     r->summer = s[34] == 'S';
     r->change = s[35] == '!';
     r->leap = s[36] == 'A';
-    unsigned said = s[11] - '0';
-    if (!fields_are_good(r) || said < 1 || said > 7)
-        return refused(OUT_OF_RANGE);
-    if (said != weekday(r->year, r->month, r->day))
-        return refused(WRONG_WEEKDAY);
+    struct answer fault = date_and_time_answer(r, s[WEEKDAY] - '0', DATE, WEEKDAY, TIME);
+    if (fault.code)
+        return fault;
     if (!said_offset(s, &r->offset))
-        return refused(WRONG_OFFSET);
+        return refused_at(WRONG_OFFSET, SIGN);
     if ((s[38] == 'L') != (r->second == 60) || !second_is_good(r))
-        return refused(WRONG_SECOND);
+        return refused_at(WRONG_SECOND, SECOND);
     *coasting = s[33] == '*';
     return accepted(ERLANGEN_LENGTH);
 }
@@ -113,8 +111,8 @@ struct answer erlangen_write(const struct reading *r, bool coasting, const uint8
         return refused(WRONG_LENGTH);
     for (size_t i = 0; i < POSITION_LENGTH; i++)
         if (!is_printable(position[i]))
-            return refused_at(i);
-    uint8_t code = reading_code(r);
+            return refused_at(WRONG_BYTE, i);
+    uint8_t code = reading_code(r, 0);
     if (code)
         return refused(code);
     if (r->quality != 0 && r->quality != 15)

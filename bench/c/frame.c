@@ -6,7 +6,8 @@
 static const char outline[] =
     "2111101112" "1111011102" "1111011002" "1111011112" "1100000002"
     "1111011112" "1111111112" "1111110002" "1111111112" "1111111102";
-enum { MARK = 2, PARITY = 75 };
+enum { SECOND = 1, MINUTE = 10, HOUR = 20, DAY = 30, YEAR = 50, DELETION = 61, SIGN = 64, PARITY = 75, SECOND_OF_DAY = 80 };
+enum { MARK = 2 };
 
 static size_t first_bad_place(const uint8_t *s)
 {
@@ -24,10 +25,18 @@ bool frame_is_outlined(const uint8_t *s)
     return true;
 }
 
-static bool digit_over_nine(const uint8_t *s)
+/* The first pulse of the lowest field that has a digit over nine, or 0. */
+static size_t field_over_nine(const uint8_t *s)
 {
-    return bits(s + 1, 4) > 9 || bits(s + 10, 4) > 9 || bits(s + 20, 4) > 9 || bits(s + 30, 4) > 9
-        || bits(s + 35, 4) > 9 || bits(s + 50, 4) > 9 || bits(s + 55, 4) > 9;
+    if (bits(s + SECOND, 4) > 9)
+        return SECOND;
+    if (bits(s + MINUTE, 4) > 9)
+        return MINUTE;
+    if (bits(s + HOUR, 4) > 9)
+        return HOUR;
+    if (bits(s + DAY, 4) > 9 || bits(s + DAY + 5, 4) > 9)
+        return DAY;
+    return bits(s + YEAR, 4) > 9 || bits(s + YEAR + 5, 4) > 9 ? YEAR : 0;
 }
 
 /* Month and day of a day of the year; false where the year does not have it. */
@@ -62,26 +71,29 @@ struct answer frame_read(const uint8_t *s, size_t length, struct reading *r)
         return refused(WRONG_LENGTH);
     size_t bad = first_bad_place(s);
     if (bad < FRAME_LENGTH)
-        return refused_at(bad);
-    if (digit_over_nine(s))
-        return refused(WRONG_DIGIT);
+        return refused_at(WRONG_BYTE, bad);
+    size_t over = field_over_nine(s);
+    if (over)
+        return refused_at(WRONG_DIGIT, over);
     if (is_odd(s, 1, PARITY))
-        return refused(WRONG_PARITY);
+        return refused_at(WRONG_PARITY, PARITY);
     set_fields(r, s);
     unsigned day = bits(s + 30, 4) + 10 * bits(s + 35, 4) + 100 * bits(s + 40, 2);
-    if (r->second > 60 || r->minute > 59 || r->hour > 23 || !set_date(r, day))
-        return refused(OUT_OF_RANGE);
+    if (!time_is_good(r))
+        return refused_at(WRONG_TIME, r->second > 60 ? SECOND : r->minute > 59 ? MINUTE : HOUR);
+    if (!set_date(r, day))
+        return refused_at(WRONG_DATE, DAY);
     if (bits(s + 80, 9) + (bits(s + 90, 8) << 9) != r->hour * 3600u + r->minute * 60u + r->second)
-        return refused(WRONG_SECOND_OF_DAY);
+        return refused_at(WRONG_SECOND_OF_DAY, SECOND_OF_DAY);
     int added = (int)(2 * bits(s + 65, 4) + s[70]);
-    bool minus = s[64];
+    bool minus = s[SIGN];
     r->offset = (int8_t)(minus ? added : -added);
     if ((minus && added == 0) || !offset_is_good(r->offset))
-        return refused(WRONG_OFFSET);
+        return refused_at(WRONG_OFFSET, SIGN);
     if (!second_is_good(r))
-        return refused(WRONG_SECOND);
-    if (s[61])
-        return refused(DELETED);
+        return refused_at(WRONG_SECOND, SECOND);
+    if (s[DELETION])
+        return refused_at(DELETED, DELETION);
     return accepted(FRAME_LENGTH);
 }
 
@@ -112,7 +124,7 @@ struct answer frame_write(const struct reading *r, uint8_t *out, size_t room)
 {
     if (room < FRAME_LENGTH)
         return refused(WRONG_LENGTH);
-    uint8_t code = reading_code(r);
+    uint8_t code = reading_code(r, 0);
     if (code)
         return refused(code);
     memset(out, 0, FRAME_LENGTH);

@@ -3,7 +3,7 @@
 #include "text.h"
 
 static const char picture[] = "\x02" "D:00.00.00;T:0;U:00.00.00;";
-enum { LETTERS = 27, LAST = MEINBERG_LENGTH - 1 };
+enum { DATE = 3, WEEKDAY = 14, TIME = 18, SECOND = 24, LETTERS = 27, LAST = MEINBERG_LENGTH - 1 };
 
 /* The lowest place with a byte that is not allowed there, or the length. */
 static size_t first_bad_place(const uint8_t *s)
@@ -28,7 +28,7 @@ struct answer meinberg_read(const uint8_t *s, size_t length, struct reading *r, 
         return refused(WRONG_LENGTH);
     size_t bad = first_bad_place(s);
     if (bad < MEINBERG_LENGTH)
-        return refused_at(bad);
+        return refused_at(WRONG_BYTE, bad);
     r->day = two_digits(s + 3);
     r->month = two_digits(s + 6);
     r->year = 2000 + two_digits(s + 9);
@@ -40,13 +40,11 @@ struct answer meinberg_read(const uint8_t *s, size_t length, struct reading *r, 
     r->summer = s[29] == 'S';
     r->leap = s[30] == 'A';
     r->change = s[30] == '!';
-    unsigned said = s[14] - '0';
-    if (!fields_are_good(r) || said < 1 || said > 7)
-        return refused(OUT_OF_RANGE);
-    if (said != weekday(r->year, r->month, r->day))
-        return refused(WRONG_WEEKDAY);
+    struct answer fault = date_and_time_answer(r, s[WEEKDAY] - '0', DATE, WEEKDAY, TIME);
+    if (fault.code)
+        return fault;
     if (!second_is_good(r))
-        return refused(WRONG_SECOND);
+        return refused_at(WRONG_SECOND, SECOND);
     *coasting = s[28] == '*';
     return accepted(MEINBERG_LENGTH);
 }
@@ -61,7 +59,7 @@ struct answer meinberg_write(const struct reading *r, bool coasting, uint8_t *ou
 {
     if (room < MEINBERG_LENGTH)
         return refused(WRONG_LENGTH);
-    uint8_t code = reading_code(r);
+    uint8_t code = reading_code(r, 0);
     if (code)
         return refused(code);
     if (!is_carried(r))

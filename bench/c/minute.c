@@ -2,7 +2,8 @@
 #include "formats.h"
 #include "row.h"
 
-enum { START = 20, MARKS = 59, GAP = 2 };
+enum { ZONE = 17, START = 20, MINUTE = 21, HOUR = 29, DAY = 36, WEEKDAY = 42, MONTH = 45, YEAR = 50, MARKS = 59 };
+enum { GAP = 2 };
 
 /* Marks 0 to 58 are 0 or 1, but the first is 0 and mark 20 is 1; a 0 at 59 where there are 61, and the gap at the end. */
 static size_t first_bad_place(const uint8_t *s, size_t length)
@@ -15,10 +16,24 @@ static size_t first_bad_place(const uint8_t *s, size_t length)
     return s[length - 1] == GAP ? length : length - 1;
 }
 
-static bool digit_over_nine(const uint8_t *s)
+/* The first mark of the lowest field that has a digit over nine, or 0. */
+static size_t field_over_nine(const uint8_t *s)
 {
-    return bits(s + 21, 4) > 9 || bits(s + 29, 4) > 9 || bits(s + 36, 4) > 9 || bits(s + 45, 4) > 9
-        || bits(s + 50, 4) > 9 || bits(s + 54, 4) > 9;
+    if (bits(s + MINUTE, 4) > 9)
+        return MINUTE;
+    if (bits(s + HOUR, 4) > 9)
+        return HOUR;
+    if (bits(s + DAY, 4) > 9)
+        return DAY;
+    if (bits(s + MONTH, 4) > 9)
+        return MONTH;
+    return bits(s + YEAR, 4) > 9 || bits(s + YEAR + 4, 4) > 9 ? YEAR : 0;
+}
+
+/* The lowest parity that is wrong, or 0. */
+static size_t wrong_parity(const uint8_t *s)
+{
+    return is_odd(s, 21, 28) ? 28 : is_odd(s, 29, 35) ? 35 : is_odd(s, 36, 58) ? 58 : 0;
 }
 
 static void set_fields(struct reading *r, const uint8_t *s)
@@ -36,6 +51,24 @@ static void set_fields(struct reading *r, const uint8_t *s)
     r->leap = s[19];
 }
 
+/* The first of the codes 15, 16 and 6, within a code the lowest mark; code 0 where all is well. */
+static struct answer date_and_time_answer(const struct reading *r, unsigned said)
+{
+    if (r->minute > 59)
+        return refused_at(WRONG_TIME, MINUTE);
+    if (r->hour > 23)
+        return refused_at(WRONG_TIME, HOUR);
+    if (!day_is_good(r))
+        return refused_at(WRONG_DATE, DAY);
+    if (said == 0)
+        return refused_at(WRONG_DATE, WEEKDAY);
+    if (!month_is_good(r))
+        return refused_at(WRONG_DATE, MONTH);
+    if (said != weekday(r->year, r->month, r->day))
+        return refused_at(WRONG_WEEKDAY, WEEKDAY);
+    return accepted(0);
+}
+
 static bool is_long(const struct reading *r) { return r->leap && after_leap_minute(r); }
 
 struct answer minute_read(const uint8_t *s, size_t length, struct reading *r, uint16_t *head)
@@ -44,21 +77,21 @@ struct answer minute_read(const uint8_t *s, size_t length, struct reading *r, ui
         return refused(WRONG_LENGTH);
     size_t bad = first_bad_place(s, length);
     if (bad < length)
-        return refused_at(bad);
-    if (digit_over_nine(s))
-        return refused(WRONG_DIGIT);
-    if (is_odd(s, 21, 28) || is_odd(s, 29, 35) || is_odd(s, 36, 58))
-        return refused(WRONG_PARITY);
+        return refused_at(WRONG_BYTE, bad);
+    size_t over = field_over_nine(s);
+    if (over)
+        return refused_at(WRONG_DIGIT, over);
+    size_t parity = wrong_parity(s);
+    if (parity)
+        return refused_at(WRONG_PARITY, parity);
     set_fields(r, s);
-    unsigned said = bits(s + 42, 3);
-    if (!fields_are_good(r) || said == 0)
-        return refused(OUT_OF_RANGE);
-    if (said != weekday(r->year, r->month, r->day))
-        return refused(WRONG_WEEKDAY);
-    if (s[17] == s[18])
-        return refused(WRONG_OFFSET);
+    struct answer fault = date_and_time_answer(r, bits(s + WEEKDAY, 3));
+    if (fault.code)
+        return fault;
+    if (s[ZONE] == s[ZONE + 1])
+        return refused_at(WRONG_OFFSET, ZONE);
     if (is_long(r) != (length == LONG_MINUTE_LENGTH))
-        return refused(WRONG_SECOND);
+        return refused_at(WRONG_SECOND, length - 1);
     *head = (uint16_t)bits(s + 1, 15);
     return accepted(length);
 }
@@ -98,9 +131,7 @@ struct answer minute_write(const struct reading *r, uint16_t head, uint8_t *out,
 {
     if (room < MINUTE_LENGTH)
         return refused(WRONG_LENGTH);
-    if (head > 32767)
-        return refused(OUT_OF_RANGE);
-    uint8_t code = reading_code(r);
+    uint8_t code = reading_code(r, head);
     if (code)
         return refused(code);
     if (!is_carried(r))

@@ -6,8 +6,9 @@
 #include "plain.h"
 
 enum {
-    WRONG_LENGTH = 1, WRONG_BYTE, WRONG_DIGIT, WRONG_PARITY, OUT_OF_RANGE, WRONG_WEEKDAY, WRONG_SECOND_OF_DAY,
-    WRONG_OFFSET, WRONG_SECOND, DELETED, NOT_CARRIED, OUTSIDE_STAMPS, CUT_SHORT, UNKNOWN_KIND
+    WRONG_LENGTH = 1, WRONG_BYTE, WRONG_DIGIT, WRONG_PARITY, WRONG_WEEKDAY = 6, WRONG_SECOND_OF_DAY, WRONG_OFFSET,
+    WRONG_SECOND, DELETED, NOT_CARRIED, OUTSIDE_STAMPS, CUT_SHORT, UNKNOWN_KIND, WRONG_TIME, WRONG_DATE,
+    WRONG_QUALITY /* or the head */
 };
 
 struct reading {
@@ -25,7 +26,7 @@ struct answer {
 };
 
 static inline struct answer refused(uint8_t code) { return (struct answer){code, 0}; }
-static inline struct answer refused_at(size_t place) { return (struct answer){WRONG_BYTE, place}; }
+static inline struct answer refused_at(uint8_t code, size_t place) { return (struct answer){code, place}; }
 static inline struct answer accepted(size_t length) { return (struct answer){0, length}; }
 
 static inline bool is_leap(unsigned year) { return year % 4 == 0 && (year % 100 != 0 || year % 400 == 0); }
@@ -55,16 +56,20 @@ static inline unsigned weekday(unsigned year, unsigned month, unsigned day)
     return (day_number(year, month, day) + 5) % 7 + 1;
 }
 
-static inline bool date_is_good(const struct reading *r)
+static inline bool month_is_good(const struct reading *r) { return r->month >= 1 && r->month <= 12; }
+
+/* Under a bad month a day is bad only outside 1 to 31. */
+static inline bool day_is_good(const struct reading *r)
 {
-    return r->year >= 2000 && r->year <= 2099 && r->month >= 1 && r->month <= 12 && r->day >= 1
-        && r->day <= month_length(r->year, r->month);
+    return r->day >= 1 && r->day <= (month_is_good(r) ? month_length(r->year, r->month) : 31);
 }
 
-static inline bool fields_are_good(const struct reading *r)
+static inline bool date_is_good(const struct reading *r)
 {
-    return date_is_good(r) && r->hour <= 23 && r->minute <= 59 && r->second <= 60 && r->quality <= 15;
+    return r->year >= 2000 && r->year <= 2099 && month_is_good(r) && day_is_good(r);
 }
+
+static inline bool time_is_good(const struct reading *r) { return r->hour <= 23 && r->minute <= 59 && r->second <= 60; }
 
 static inline bool offset_is_good(int offset) { return offset >= -24 && offset <= 28; }
 
@@ -122,11 +127,16 @@ static inline bool stamp_of(const struct reading *r, uint64_t *stamp)
     return true;
 }
 
-/* What every writer asks of a reading: 0, or the lowest of the codes 5, 8 and 9. */
-static inline uint8_t reading_code(const struct reading *r)
+/* What every writer asks of a reading, and of a head, 0 where the format has none: 0, or the first of the codes 15, 16, 17,
+   8 and 9. */
+static inline uint8_t reading_code(const struct reading *r, uint16_t head)
 {
-    if (!fields_are_good(r))
-        return OUT_OF_RANGE;
+    if (!time_is_good(r))
+        return WRONG_TIME;
+    if (!date_is_good(r))
+        return WRONG_DATE;
+    if (r->quality > 15 || head > 32767)
+        return WRONG_QUALITY;
     if (!offset_is_good(r->offset))
         return WRONG_OFFSET;
     return second_is_good(r) ? 0 : WRONG_SECOND;

@@ -1,39 +1,39 @@
 -- Codes 13 and 14 are the book's own: no reader and no stamp answers with them, so that they alone tell a caller that the
 -- walk is over.
 use mathlib.Core.Path.{_≡_, refl, sym, ap, _∙_}
-use mathlib.Core.Bool.{Bool, true, false, cond, _||_}
-use mathlib.Core.List.{List}
+use mathlib.Core.Bool.{Bool, true, false, cond}
+use mathlib.Core.List.{List, [], _∷_}
 use mathlib.Core.Logic.{_⊎_, inl, inr}
 use Prim.Native.Nat.{ℕ, suc}
 use lib.Dec.{eqb}
-use borrow.Author.Tests.{eqb-false}
-use Rattle.laws.proofs.Bools.{neither}
+use Rattle.laws.proofs.Bools.{never}
 use Rattle.reading.specs.declared.Reading.{Reading}
 use Rattle.reading.specs.declared.Refusal.{Refusal}
-use Rattle.reading.specs.declared.Fault.{Fault}
 use Rattle.reading.specs.declared.Fault.the-variants.{OutsideStamps, CutShort, UnknownKind}
-use Rattle.reading.specs.declared.Verdict.{Verdict}
-use Rattle.reading.specs.declared.Verdict.the-variants.{Good, Bad}
-use Rattle.reading.specs.Faults.{codeOf, number, first}
-use Rattle.reading.specs.Writing.{andThen}
+use Rattle.reading.specs.Faults.{number}
 use Rattle.reading.specs.Universal.{utcOf}
 use Rattle.reading.specs.Stamps.{stampNumber}
+use Rattle.reading.specs.Refusals.{Objection, among}
 use Rattle.reading.proofs.CheckLaws.{clash}
-use Rattle.strings.specs.declared.Places.{Places}
-use Rattle.strings.specs.Checks.{faultOf, answerOf as stringAnswer}
-use Rattle.meinberg.specs.Meaning.{faultIn as meinbergFault, readMeinberg}
-use Rattle.erlangen.specs.Meaning.{faultIn as erlangenFault, readErlangen}
-use Rattle.irig.specs.Faults.{faultIn as frameFault, valuesFault, fieldsFault, answerOf as frameAnswer, readFrame}
-use Rattle.dcf77.specs.Reader.{
-  readFault as minuteFault,
-  saidFault,
-  digitFault,
-  parityFault,
-  fieldFault,
-  ruleFault,
-  answerOf as minuteAnswer,
-  readDcf77,
-}
+use Rattle.strings.specs.declared.Answer.{Answer as StringAnswer}
+use Rattle.strings.specs.declared.Answer.the-variants.{Time as StringTime, No as StringNo}
+use Rattle.strings.specs.Checks.{AnswerOwed as StringOwed}
+use Rattle.meinberg.specs.Meaning.{readMeinberg}
+use Rattle.meinberg.specs.Objections.{readCodes as meinbergCodes}
+use Rattle.meinberg.proofs.OwedLaws.{read-owed as meinberg-owed}
+use Rattle.erlangen.specs.Meaning.{readErlangen}
+use Rattle.erlangen.specs.Objections.{readCodes as erlangenCodes}
+use Rattle.erlangen.proofs.OwedLaws.{read-owed as erlangen-owed}
+use Rattle.irig.specs.declared.Answer.{Answer as FrameAnswer}
+use Rattle.irig.specs.declared.Answer.the-variants.{Time as FrameTime, No as FrameNo}
+use Rattle.irig.specs.Faults.{readFrame}
+use Rattle.irig.specs.Objections.{readObjections as frameObjections, readCodes as frameCodes, AnswerOwed as FrameOwed}
+use Rattle.irig.proofs.OwedLaws.{read-owed as frame-owed}
+use Rattle.dcf77.specs.declared.Answer.{Answer as MinuteAnswer}
+use Rattle.dcf77.specs.declared.Answer.the-variants.{Time as MinuteTime, No as MinuteNo}
+use Rattle.dcf77.specs.Reader.{readDcf77}
+use Rattle.dcf77.specs.Objections.{readObjections as minuteObjections, readCodes as minuteCodes, AnswerOwed as MinuteOwed}
+use Rattle.dcf77.proofs.OwedLaws.{read-owed as minute-owed}
 use Rattle.book.specs.declared.Said.{Said}
 use Rattle.book.specs.declared.Said.the-variants.{Time, No}
 use Rattle.book.specs.declared.Record.{Record}
@@ -46,73 +46,45 @@ use Rattle.book.proofs.PlaceLaws.{Whole, whole-there}
 use Rattle.book.proofs.BodyLaws.{stamped-or-12}
 use Rattle.book.proofs.BookLaws.{Place, beyond, strange, short, whole, place, accepted-there, turns, over-again, over-after-14, over-after-13}
 
--- ---- no reader finds a fault of the book
-
--- the fault has a code of the book's own
-abbrev ownFault : Fault → Bool
-ownFault x = eqb (codeOf x) (codeOf CutShort) || eqb (codeOf x) (codeOf UnknownKind)
-
-data Bodily : Verdict → Type 0 where
-  good : Bodily Good
-  bad : (x : Fault) → ownFault x ≡ false → Bodily (Bad x)
-
-or : (b : Bool) (x : Fault) (v : Verdict) → ownFault x ≡ false → Bodily v → Bodily (first b x v)
-or true x v e p = bad x e
-or false x v e p = p
-
-then : (v w : Verdict) → Bodily v → Bodily w → Bodily (andThen v w)
-then Good w p q = q
-then (Bad x) w p q = p
-
-of-string : (r : Reading) (w : ℕ) (offset mark : Bool) (p : Places) → Bodily (faultOf r w offset mark p)
-unfolding faultOf
-of-string r w offset mark p = search (or, good) depth 20
-
-of-meinberg : (base : ℕ) (s : List ℕ) → Bodily (meinbergFault base s)
-unfolding meinbergFault
-of-meinberg base s = search (or, of-string)
-
-of-erlangen : (base : ℕ) (s : List ℕ) → Bodily (erlangenFault base s)
-unfolding erlangenFault
-of-erlangen base s = search (or, of-string)
-
-of-frame : (base : ℕ) (s : List ℕ) → Bodily (frameFault base s)
-unfolding frameFault valuesFault fieldsFault
-of-frame base s = search (or, good) depth 40
-
-of-minute : (base : ℕ) (s : List ℕ) → Bodily (minuteFault base s)
-unfolding minuteFault saidFault digitFault parityFault fieldFault ruleFault
-of-minute base s = search (or, then, good) depth 40
-
--- ---- so that no body is refused by 13 or 14
+-- ---- no body is refused by 13 or 14
 
 -- a refusal that is not the book's own
 abbrev pub NotOwn : Refusal → Type 0
 NotOwn x = (x ≡ number CutShort → ⊥) × (x ≡ number UnknownKind → ⊥)
 
-not-own : (y : Fault) → ownFault y ≡ false → (x : Refusal) → x ≡ number y → NotOwn x
+-- one by codes that 13 and 14 are not among
+not-own : (codes : List ℕ) → among codes 13 ≡ false → among codes 14 ≡ false → (x : Refusal) → among codes (x .code) ≡ true → NotOwn x
 unfolding number
-not-own y e x p =
-    let n = neither (eqb (codeOf y) (codeOf CutShort)) (eqb (codeOf y) (codeOf UnknownKind)) e in (
-      (λ q. eqb-false (codeOf y) (codeOf CutShort) (n .0) (ap (λ (z : Refusal). z .code) (sym p ∙ q))),
-      λ q. eqb-false (codeOf y) (codeOf UnknownKind) (n .1) (ap (λ (z : Refusal). z .code) (sym p ∙ q)),
-    )
+not-own codes a b x m = (
+  (λ e. never (sym a ∙ ap (λ (z : Refusal). among codes (z .code)) (sym e) ∙ m)),
+  λ e. never (sym b ∙ ap (λ (z : Refusal). among codes (z .code)) (sym e) ∙ m),
+)
 
-module _ (x : Refusal) where
-  string-refused : {v : Verdict} (r : Reading) (c : Bool) → Bodily v → ofString (stringAnswer v r c) ≡ No x → NotOwn x
-  string-refused r c good p = let z : _≡_ {A = ℕ} 0 1 = cc in clash z
-  string-refused r c (bad y e) p = not-own y e x (cc)
+by-12 : (x : Refusal) → x ≡ number OutsideStamps → NotOwn x
+unfolding number
+by-12 x e = not-own (12 ∷ []) refl refl x (ap (λ (z : Refusal). among (12 ∷ []) (z .code)) e)
 
-  frame-refused : {v : Verdict} (r : Reading) → Bodily v → ofFrame (frameAnswer v r) ≡ No x → NotOwn x
-  frame-refused r good p = let z : _≡_ {A = ℕ} 0 1 = cc in clash z
-  frame-refused r (bad y e) p = not-own y e x (cc)
+string-refused : (l : List Objection) (codes : List ℕ) → among codes 13 ≡ false → among codes 14 ≡ false
+    → (a : StringAnswer) → StringOwed l codes a → (x : Refusal) → ofString a ≡ No x → NotOwn x
+string-refused l codes c d (StringTime r coasting) p x e = let z : _≡_ {A = ℕ} 0 1 = cc in clash z
+string-refused l codes c d (StringNo y) p x e = not-own codes c d x (let same : y ≡ x = cc in rw (sym same) (p .1))
 
-  minute-refused : {v : Verdict} (r : Reading) (h : ℕ) → Bodily v → ofMinute (minuteAnswer v r h) ≡ No x → NotOwn x
-  minute-refused r h good p = let z : _≡_ {A = ℕ} 0 1 = cc in clash z
-  minute-refused r h (bad y e) p = not-own y e x (cc)
+frame-refused : (s : List ℕ) (base : ℕ) (x : Refusal) → ofFrame (readFrame base s) ≡ No x → NotOwn x
+frame-refused s base x e = go (readFrame base s) (frame-owed base s) e
+  where
+    go : (a : FrameAnswer) → FrameOwed (frameObjections base s) frameCodes a → ofFrame a ≡ No x → NotOwn x
+    go (FrameTime r) p e = let z : _≡_ {A = ℕ} 0 1 = cc in clash z
+    go (FrameNo y) p e = not-own frameCodes refl refl x (let same : y ≡ x = cc in rw (sym same) (p .1))
+
+minute-refused : (s : List ℕ) (base : ℕ) (x : Refusal) → ofMinute (readDcf77 base s) ≡ No x → NotOwn x
+minute-refused s base x e = go (readDcf77 base s) (minute-owed base s) e
+  where
+    go : (a : MinuteAnswer) → MinuteOwed (minuteObjections base s) minuteCodes a → ofMinute a ≡ No x → NotOwn x
+    go (MinuteTime r h) p e = let z : _≡_ {A = ℕ} 0 1 = cc in clash z
+    go (MinuteNo y) p e = not-own minuteCodes refl refl x (let same : y ≡ x = cc in rw (sym same) (p .1))
 
 pub refused-by-reader : (base kind : ℕ) (s : List ℕ) (x : Refusal) → readBody base kind s ≡ No x → NotOwn x
-unfolding readBody readMeinberg readErlangen readFrame readDcf77
+unfolding readBody
 refused-by-reader base kind s x e = go (eqb kind 1) (eqb kind 2) (eqb kind 3) e
   where
     go : (a b c : Bool)
@@ -120,10 +92,10 @@ refused-by-reader base kind s x e = go (eqb kind 1) (eqb kind 2) (eqb kind 3) e
         (cond b (ofString (readErlangen base s)) (cond c (ofFrame (readFrame base s)) (ofMinute (readDcf77 base s))))
         ≡ No x
         → NotOwn x
-    go true b c e = string-refused x _ _ (of-meinberg base s) e
-    go false true c e = string-refused x _ _ (of-erlangen base s) e
-    go false false true e = frame-refused x _ (of-frame base s) e
-    go false false false e = minute-refused x _ _ (of-minute base s) e
+    go true b c e = string-refused _ meinbergCodes refl refl (readMeinberg base s) (meinberg-owed base s) x e
+    go false true c e = string-refused _ erlangenCodes refl refl (readErlangen base s) (erlangen-owed base s) x e
+    go false false true e = frame-refused s base x e
+    go false false false e = minute-refused s base x e
 
 pub refused-whole : (base : ℕ) (b : List ℕ) (at k : ℕ) (x : Refusal) → Whole b at → recordAt base b at ≡ Refused k x → NotOwn x
 refused-whole base b at k x w e = go (readBody base kind (bodyAt b at)) refl
@@ -170,7 +142,7 @@ over-after-own-listed base b at k x n e own = go (recordAt base b at) refl e
         → (stampingOf base (Accepted kind r) ≡ Stamped kind m) ⊎ (stampingOf base (Accepted kind r) ≡ Unstamped kind (number OutsideStamps))
         → recordAt base b (turns b (suc n) at) ≡ Over
     no-stamp kind m r f (inl s) = let z : _≡_ {A = ℕ} 0 1 = cc in clash z
-    no-stamp kind m r f (inr s) = not-12 (not-own OutsideStamps refl x (cc)) own
+    no-stamp kind m r f (inr s) = not-12 (by-12 x (cc)) own
 
     go : (found : Record) → recordAt base b at ≡ found → stampingOf base found ≡ Unstamped k x → recordAt base b (turns b (suc n) at) ≡ Over
     go Over p f = let z : _≡_ {A = ℕ} 0 1 = cc in clash z

@@ -13,11 +13,11 @@ use Rattle.reading.specs.Offset.{west, east, offsetGood, localOf}
 use Rattle.reading.specs.Years.{base, inHundred, yearOf}
 use Rattle.reading.specs.Universal.{utcMinutes, onDay, utcOf}
 use Rattle.reading.specs.Leap.{closesWithLeap, leapMinute, sixtyBad, afterLeap}
-use Rattle.reading.specs.Checks.{timeBad, dateBad, checkedOf}
+use Rattle.reading.specs.Checks.{timeBad, dateBad, checkedOf, dayBad, weekdayWrong}
 use Rattle.reading.specs.Stamps.{hasStamp, stampNumber, stampAt, stampOf}
 use Rattle.wire.specs.Digits.{digit, pair}
 use Rattle.wire.specs.Layout.{packed, exactly, from, either, oneOf, within, beside, allowed, goodPlaces}
-use Rattle.strings.specs.Checks.{dayBad as stringDayBad, monthBad, weekdayBad, weekdayWrong as stringWeekdayWrong, faultOf}
+use Rattle.strings.specs.Checks.{monthBad, weekdayBad, faultOf}
 use Rattle.meinberg.specs.Layout.{layout as meinbergLayout}
 use Rattle.meinberg.specs.Zones.{offsetOf as zoneOffset, summerOf}
 use Rattle.meinberg.specs.Meaning.{qualityOf, coastingIn, meaning, faultIn as meinbergFault, readMeinberg}
@@ -31,7 +31,7 @@ use Rattle.irig.specs.Faults.{isOdd, fieldsFault, valuesFault, faultIn as frame
 use Rattle.dcf77_table.specs.Table.{sharedMarks, lastMarks, minuteMarks}
 use Rattle.dcf77.specs.Zones.{offsetIn, zoneOf, zoneBad}
 use Rattle.dcf77.specs.Forms.{lastOf, dueLong}
-use Rattle.dcf77.specs.Reader.{isLong, tableFor, says, readingOf as minuteReading, lengthBad, digitFault, odd, parityFault, dayBad as minuteDayBad, fieldFault, weekdayWrong as minuteWeekdayWrong, ruleFault, saidFault, readFault, readDcf77}
+use Rattle.dcf77.specs.Reader.{isLong, tableFor, says, readingOf as minuteReading, lengthBad, digitFault, odd, parityFault, fieldFault, ruleFault, saidFault, readFault, readDcf77}
 use Rattle.book.specs.declared.Record.the-variants.{Accepted, Refused}
 use Rattle.book.specs.declared.Stamping.the-variants.{Stamped, Unstamped}
 use Rattle.book.specs.Body.{bodyLength, readBody}
@@ -173,12 +173,12 @@ pub worked-books :
 unfolding recordsFrom recordAt nextAt bodyLength readBody number
     yearOf west east offsetGood localOf utcMinutes onDay utcOf closesWithLeap leapMinute sixtyBad afterLeap
     leapYear daysIn daysBefore yearLength daysBeforeYear dayOfYear dayNumber weekdayOf isMonth lastDay isDay dayBefore dayAfter yearAfter monthUpTo inYear monthDay
-    digit pair packed exactly from either oneOf within beside allowed goodPlaces stringDayBad monthBad weekdayBad stringWeekdayWrong faultOf
+    digit pair packed exactly from either oneOf within beside allowed goodPlaces dayBad monthBad weekdayBad weekdayWrong faultOf
     meinbergLayout zoneOffset summerOf qualityOf coastingIn meaning meinbergFault readMeinberg
     erlangenLayout wholeUnits unitsOf tooFar erlangenOffsetBad signed erlangenOffset shows weekdaySaid coastingSaid offsetWrong markWrong erlangenReading erlangenFault readErlangen
     groupOf weightOf pulseAllowed goodPulses shareOf sumOf sumsOf upTo onesFrom liesWithin onesOf
     framePulses secondIn minuteIn hourIn dayIn digitsIn halvesIn addedIn yearIn monthDayIn frameReading frameDayBad secondOfDayWrong frameOffsetBad isOdd fieldsFault valuesFault frameFault readFrame
-    sharedMarks lastMarks minuteMarks offsetIn zoneOf zoneBad lastOf dueLong isLong tableFor says minuteReading lengthBad digitFault odd parityFault minuteDayBad fieldFault minuteWeekdayWrong ruleFault saidFault readFault readDcf77
+    sharedMarks lastMarks minuteMarks offsetIn zoneOf zoneBad lastOf dueLong isLong tableFor says minuteReading lengthBad digitFault odd parityFault fieldFault ruleFault saidFault readFault readDcf77
 worked-books = (refl, refl, refl)
 
 -- case 9 is "accepted, its stamp is code 12"

@@ -1,3 +1,4 @@
 pub mod PendingLaws
 pub mod BridgeLaws
 pub mod Unique
+pub mod OwedLaws

@@ -12,3 +12,4 @@ pub mod ShapeLaws
 pub mod StandIns
 pub mod Worked
 pub mod Unique
+pub mod OwedLaws

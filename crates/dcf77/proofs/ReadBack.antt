@@ -4,9 +4,9 @@ use mathlib.Core.List.{List}
 use mathlib.Core.Logic.{_⊎_, ⊎-elim}
 use mathlib.Core.Path.{_≡_, refl, sym, _∙_}
 use Prim.Native.Nat.{ℕ, _<_}
-use native.Mathlib.Decide.{ℕ-discrete, decLt}
+use native.Mathlib.Decide.{decLt}
 use native.Mathlib.Omega.{arith}
-use borrow.Author.Tests.{eqb-true, eq-eqb, ne-eqb, not-false}
+use borrow.Author.Tests.{eqb-true, not-false}
 use lib.Dec.{eqb}
 use lib.ListN.{getD}
 use Rattle.laws.proofs.Bools.{either, is-true}
@@ -17,6 +17,7 @@ use Rattle.reading.specs.Leap.{sixtyBad}
 use Rattle.reading.proofs.CheckLaws.{is-checked}
 use Rattle.reading.proofs.YearLaws.{year-in, digits-of}
 use Rattle.pulses.specs.Row.{row}
+use Rattle.pulses.proofs.BitLaws.{bit-there}
 use Rattle.dcf77_table.specs.Table.{head, change, zone, leap, minuteParity, hourParity, dateParity, tensOfYears, years, minuteMarks}
 use Rattle.dcf77_table.specs.Values.{widths, Proper}
 use Rattle.dcf77_table.proofs.Family.{Each, each}
@@ -24,19 +25,13 @@ use Rattle.dcf77_table.proofs.ValueLaws.{firstUnused, same-unused, same-values}
 use Rattle.dcf77_table.proofs.PartLaws.{Part, isPlain, SamePlain, minute-part, hour-part, date-part}
 use Rattle.dcf77.specs.Zones.{offsetIn, zoneOf, zoneBad}
 use Rattle.dcf77.specs.Reader.{twoDigits, readingOf, odd}
-use Rattle.dcf77.specs.Writer.{bit, plainOf, evened, withParity, valuesOf}
+use Rattle.dcf77.specs.Writer.{plainOf, evened, withParity, valuesOf}
 use Rattle.dcf77.proofs.WriteLaws.{Carried}
 use Rattle.dcf77.proofs.ParityLaws.{evened-same, even-parity}
 use Rattle.dcf77.proofs.SoundLaws.{Sound}
 use Rattle.dcf77.proofs.ValueBounds.{values-proper, parities-apart}
 
--- ---- flags and zones, back and there
-
-bit-there : (n : ℕ) → n < 2 → bit (eqb n 1) ≡ n
-bit-there n h = elim (ℕ-discrete n 1) [
-  | yes e ↦ rw (eq-eqb n 1 e) (sym e)
-  | no d ↦ rw (ne-eqb n 1 d) (omega arith)
-]
+-- ---- zones, back and there
 
 zone-there : (z : ℕ) → zoneBad z ≡ false → zoneOf (eqb z (zoneOf true)) ≡ z
 unfolding zoneBad zoneOf

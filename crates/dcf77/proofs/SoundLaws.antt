@@ -6,19 +6,20 @@ use Prim.Native.Nat.{ℕ, _≤_}
 use native.Mathlib.Omega.{arith}
 use lib.Dec.{eqb}
 use lib.ListN.{length, getD}
-use borrow.Author.Tests.{not-false, ltb-false, le-ltb, eqb-true, eq-eqb, ne-eqb}
-use Rattle.laws.proofs.Bools.{both, neither, holds, same-bool}
-use Rattle.calendar.specs.Calendar.{leapYear, weekdayOf, isMonth, isDay, isDate}
+use borrow.Author.Tests.{not-false, ltb-false, le-ltb, ne-eqb}
+use Rattle.laws.proofs.Bools.{neither, holds, same-bool}
+use Rattle.calendar.specs.Calendar.{weekdayOf, isMonth, isDate}
 use Rattle.calendar.proofs.WeekdayLaws.{weekday-range}
 use Rattle.reading.specs.declared.Reading.{Reading}
 use Rattle.reading.specs.declared.Verdict.the-variants.{Good}
 use Rattle.reading.specs.Universal.{dateOf}
-use Rattle.reading.specs.Checks.{hourBad, minuteBad}
-use Rattle.reading.proofs.CheckLaws.{first-good}
+use Rattle.reading.specs.Checks.{hourBad, minuteBad, dayBad, weekdayWrong}
+use Rattle.reading.proofs.CheckLaws.{first-good, date-there, date-parts, weekday-there, weekday-fits}
+use Rattle.pulses.specs.Row.{overNine}
 use Rattle.dcf77_table.specs.Table.{zone, minutes, hours, days, weekday, months, years, tensOfYears}
 use Rattle.dcf77.specs.Zones.{zoneBad}
 use Rattle.dcf77.specs.Forms.{dueLong, minutePlace, minuteParityPlace, hourPlace, hourParityPlace, dayPlace, dateParityPlace}
-use Rattle.dcf77.specs.Reader.{isLong, overNine, digitFault, odd, parityFault, dayBad, fieldFault, weekdayWrong, ruleFault, saidFault}
+use Rattle.dcf77.specs.Reader.{isLong, digitFault, odd, parityFault, fieldFault, ruleFault, saidFault}
 use Rattle.dcf77.proofs.WriteLaws.{both-good}
 
 -- the six digits that could be over 9
@@ -91,17 +92,9 @@ good-evens : (s : List ℕ) → Evens s → parityFault s ≡ Good
 unfolding parityFault
 good-evens s p = rw (p .minute, p .hour, p .date)
 
--- ---- codes 5 to 9
+-- ---- codes 15, 16, 6, 8 and 9
 
 module _ (r : Reading) (w z : ℕ) (long : Bool) where
-  the-date : dayBad r ≡ false → not (isMonth (r .month)) ≡ false → isDate (dateOf r) ≡ true
-  unfolding dayBad isDate
-  the-date d m = rw (not-false (isMonth (r .month)) m, not-false (isDay (leapYear (r .year)) (r .month) (r .day)) d)
-
-  the-week : weekdayWrong r w ≡ false → w ≡ weekdayOf (dateOf r)
-  unfolding weekdayWrong
-  the-week e = eqb-true w (weekdayOf (dateOf r)) (not-false (eqb w (weekdayOf (dateOf r))) e)
-
   fields-good : fieldFault r w ≡ Good → ruleFault r w z long ≡ Good → Fields r w z long
   unfolding fieldFault ruleFault
   fields-good e q =
@@ -116,8 +109,8 @@ module _ (r : Reading) (w z : ℕ) (long : Bool) where
       record {
         minute = ltb-false 59 (r .minute) (a .0);
         hour = ltb-false 23 (r .hour) (b .0);
-        date = the-date (c .0) (f .0);
-        week = the-week (g .0);
+        date = date-there r (c .0) (f .0);
+        week = weekday-there r w (g .0);
         zone-good = h .0;
         form = same-bool long (dueLong r) (holds _ (not-false (Bool·beq long (dueLong r)) (i .0)));
       }
@@ -126,20 +119,16 @@ module _ (r : Reading) (w z : ℕ) (long : Bool) where
   beq-self true = refl
   beq-self false = refl
 
-  date-parts : isDate (dateOf r) ≡ true → (isMonth (r .month) ≡ true) × (isDay (leapYear (r .year)) (r .month) (r .day) ≡ true)
-  unfolding isDate
-  date-parts e = both (isMonth (r .month)) (isDay (leapYear (r .year)) (r .month) (r .day)) e
-
   good-fields : Fields r w z long → fieldFault r w ≡ Good
-  unfolding fieldFault dayBad
+  unfolding fieldFault
   good-fields p =
-      let d = date-parts (p .date) in
+      let d = date-parts r (p .date) in
       let week = weekday-range (dateOf r) in
       rw (le-ltb 59 (r .minute) (p .minute), le-ltb 23 (r .hour) (p .hour), d .1, ne-eqb w 0 (λ q. omega (arith, p .week)), d .0)
 
   good-rules : Fields r w z long → ruleFault r w z long ≡ Good
-  unfolding ruleFault weekdayWrong
-  good-rules p = rw (eq-eqb w (weekdayOf (dateOf r)) (p .week), p .zone-good, p .form, beq-self (dueLong r))
+  unfolding ruleFault
+  good-rules p = rw (weekday-fits r w (p .week), p .zone-good, p .form, beq-self (dueLong r))
 
 -- ---- all of them
 

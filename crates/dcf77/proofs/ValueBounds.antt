@@ -17,12 +17,13 @@ use Rattle.reading.specs.declared.Reading.{Reading}
 use Rattle.reading.specs.Universal.{dateOf}
 use Rattle.reading.proofs.CheckLaws.{checked-is}
 use Rattle.pulses.specs.Row.{groups}
+use Rattle.pulses.proofs.BitLaws.{bit-small}
 use Rattle.dcf77_table.specs.Table.{minuteParity, hourParity, dateParity}
 use Rattle.dcf77_table.specs.Values.{widths, Proper}
 use Rattle.dcf77_table.proofs.Family.{Each, each}
 use Rattle.dcf77_table.proofs.PartLaws.{isPlain, SamePlain, minute-part, hour-part, date-part}
 use Rattle.dcf77.specs.Zones.{zoneOf}
-use Rattle.dcf77.specs.Writer.{bit, plainOf, evened, withParity, valuesOf}
+use Rattle.dcf77.specs.Writer.{plainOf, evened, withParity, valuesOf}
 use Rattle.dcf77.proofs.WriteLaws.{Carried}
 use Rattle.dcf77.proofs.ParityLaws.{evened-small}
 
@@ -42,10 +43,6 @@ month-and-day r e =
     (m .1, omega (arith, p .last))
 
 -- ---- the values fit
-
-bit-small : (b : Bool) → bit b < 2
-bit-small true = omega arith
-bit-small false = omega arith
 
 zone-small : (b : Bool) → zoneOf b < 4
 unfolding zoneOf

@@ -10,6 +10,7 @@ use Rattle.reading.specs.Years.{yearOf}
 use Rattle.reading.proofs.CheckLaws.{checked-is}
 use Rattle.reading.proofs.YearLaws.{year-back}
 use Rattle.pulses.specs.Row.{row, goodPulses}
+use Rattle.pulses.proofs.BitLaws.{bit-back}
 use Rattle.pulses.proofs.RowLaws.{row-good}
 use Rattle.dcf77_table.specs.Table.{head, minuteMarks}
 use Rattle.dcf77_table.proofs.ValueLaws.{said-row}
@@ -18,18 +19,14 @@ use Rattle.dcf77.specs.declared.Answer.the-variants.{Time}
 use Rattle.dcf77.specs.Zones.{offsetIn, zoneOf, zoneBad}
 use Rattle.dcf77.specs.Forms.{lengthOf, dueLong}
 use Rattle.dcf77.specs.Reader.{isLong, tableFor, says, readingOf, lengthBad, odd, readDcf77}
-use Rattle.dcf77.specs.Writer.{bit, plainOf, evened, withParity, valuesOf, bytesOf}
+use Rattle.dcf77.specs.Writer.{plainOf, evened, withParity, valuesOf, bytesOf}
 use Rattle.dcf77.proofs.WriteLaws.{Carried, carried, length-bytes, bytes-are, length-of-marks}
 use Rattle.dcf77.proofs.ParityLaws.{evened-same, evened-small, parity-even}
 use Rattle.dcf77.proofs.SoundLaws.{Evens, Sound}
 use Rattle.dcf77.proofs.ReadLaws.{is-read}
 use Rattle.dcf77.proofs.ValueBounds.{values-proper, parities-apart}
 
--- ---- flags and zones, there and back
-
-bit-back : (b : Bool) → eqb (bit b) 1 ≡ b
-bit-back true = refl
-bit-back false = refl
+-- ---- zones, there and back
 
 summer-back : (b : Bool) → eqb (zoneOf b) (zoneOf true) ≡ b
 unfolding zoneOf

@@ -4,17 +4,16 @@ use mathlib.Core.List.{List}
 use Prim.Native.Nat.{ℕ, _+_, _-_, _*_, _%_}
 use lib.Dec.{eqb, ltb}
 use lib.ListN.{length, getD}
-use Rattle.calendar.specs.Calendar.{leapYear, weekdayOf, isMonth, isDay}
+use Rattle.calendar.specs.Calendar.{isMonth}
 use Rattle.reading.specs.declared.Reading.{Reading}
 use Rattle.reading.specs.declared.Verdict.{Verdict}
 use Rattle.reading.specs.declared.Verdict.the-variants.{Good, Bad}
 use Rattle.reading.specs.declared.Fault.the-variants.{Length, Byte, Digit, Parity, Time, Date, Weekday, Offset, LeapSecond}
 use Rattle.reading.specs.Faults.{number, first}
 use Rattle.reading.specs.Years.{yearOf}
-use Rattle.reading.specs.Universal.{dateOf}
-use Rattle.reading.specs.Checks.{hourBad, minuteBad}
+use Rattle.reading.specs.Checks.{hourBad, minuteBad, dayBad, weekdayWrong}
 use Rattle.reading.specs.Writing.{andThen}
-use Rattle.pulses.specs.Row.{goodPulses, sumsOf, onesOf}
+use Rattle.pulses.specs.Row.{goodPulses, sumsOf, onesOf, overNine}
 use Rattle.dcf77_table.specs.Table.{
   head,
   change,
@@ -98,10 +97,6 @@ readingOf base v =
 unfoldable pub lengthBad : ℕ → Bool
 lengthBad n = not (eqb n shortLength || eqb n longLength)
 
--- the digit of group g is over 9
-abbrev pub overNine : List ℕ → ℕ → Bool
-overNine v g = ltb 9 (getD v g 0)
-
 -- code 3, at the place of the field
 unfoldable pub digitFault : List ℕ → Verdict
 digitFault v =
@@ -122,11 +117,7 @@ parityFault s =
     (first (odd hourPlace hourParityPlace s) (Parity hourParityPlace)
     (first (odd dayPlace dateParityPlace s) (Parity dateParityPlace) Good))
 
--- the month has no such day
-unfoldable pub dayBad : Reading → Bool
-dayBad r = not (isDay (leapYear (r .year)) (r .month) (r .day))
-
--- code 5; w is the weekday that the marks name
+-- codes 15 and 16; w is the weekday that the marks name
 unfoldable pub fieldFault : Reading → ℕ → Verdict
 fieldFault r w =
     first (minuteBad (r .minute)) (Time minutePlace)
@@ -135,10 +126,6 @@ fieldFault r w =
     (first (eqb w 0) (Date weekdayPlace)
     (first (not (isMonth (r .month))) (Date monthPlace) Good))))
 
--- "weekday doesn't fit the date"
-unfoldable pub weekdayWrong : Reading → ℕ → Bool
-weekdayWrong r w = not (eqb w (weekdayOf (dateOf r)))
-
 -- codes 6, 8 and 9; z is the zone that the marks name, long their form: "DCF77 length against the leap rule"
 unfoldable pub ruleFault : Reading → ℕ → ℕ → Bool → Verdict
 ruleFault r w z long =
@@ -146,7 +133,7 @@ ruleFault r w z long =
     (first (zoneBad z) (Offset zonePlace)
     (first (not (Bool·beq long (dueLong r))) (LeapSecond (lastOf long)) Good))
 
--- codes 3 to 9 of the marks s, whose groups say v and name the reading r
+-- codes 3, 4, 15, 16, 6, 8 and 9 of the marks s, whose groups say v and name the reading r
 unfoldable pub saidFault : List ℕ → List ℕ → Reading → Verdict
 saidFault s v r =
     andThen (digitFault v)

@@ -1,5 +1,5 @@
 -- The marks of a reading and its head, and what the writer refuses.
-use mathlib.Core.Bool.{Bool, true, false, cond, not, _&&_, _||_}
+use mathlib.Core.Bool.{Bool, true, false, not, _&&_, _||_}
 use mathlib.Core.List.{List, [], _∷_}
 use Prim.Native.Nat.{ℕ, _-_, _/_, _%_}
 use lib.Dec.{eqb, ltb}
@@ -16,16 +16,12 @@ use Rattle.reading.specs.Universal.{dateOf, utcOf}
 use Rattle.reading.specs.Leap.{sixtyBad}
 use Rattle.reading.specs.Checks.{timeBad, dateBad, qualityBad, lowestOf}
 use Rattle.reading.specs.Writing.{andThen}
-use Rattle.pulses.specs.Row.{row, onesOf}
+use Rattle.pulses.specs.Row.{row, onesOf, bit}
 use Rattle.dcf77_table.specs.Table.{minuteParity, hourParity, dateParity, minuteMarks}
 use Rattle.dcf77.specs.Zones.{offsetIn, zoneOf}
 use Rattle.dcf77.specs.Forms.{lengthOf, dueLong, minutePlace, minuteParityPlace, hourPlace, hourParityPlace, dayPlace, dateParityPlace}
 
 -- ---- the marks
-
--- a flag as a mark
-abbrev pub bit : Bool → ℕ
-bit flag = cond flag 1 0
 
 -- what each group says, with the parity marks left 0: three fixed groups, head, change, zone, leap, then
 -- minute, hour, day, weekday, month and year, the last digit before the tens
@@ -73,7 +69,7 @@ checkedWith base r h =
 unfoldable pub notCarried : Reading → Bool
 notCarried r = not (eqb (r .second) 0 && (eqb (r .quality) 0 && same (r .offset .0) (offsetIn (r .summer))))
 
--- codes 5 to 11
+-- codes 15, 16, 17, 8, 9 and 11
 unfoldable pub carryFault : ℕ → Reading → ℕ → Verdict
 carryFault base r h = andThen (checkedWith base r h) (first (notCarried r) NotCarried Good)
 
@@ -82,7 +78,8 @@ abbrev pub isGood : Verdict → Bool
 isGood Good = true
 isGood (Bad fault) = false
 
--- "61 bytes where codes 2 to 11 let the reading through and the leap rule makes the minute long, and 60 otherwise"
+-- "61 bytes where codes 2 to 11 let the reading through and the leap rule makes the minute long, and 60 otherwise"; 15, 16 and 17, which by
+-- L5 stand in 5's position, are among these
 unfoldable pub needed : Verdict → Bool → ℕ
 needed verdict long = lengthOf (isGood verdict && long)
 

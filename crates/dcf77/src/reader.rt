@@ -6,17 +6,16 @@ use super::rules::due_long;
 use super::rules::first;
 use super::rules::offset_in;
 use super::rules::places;
-use super::rules::week_of;
 use super::rules::zone_of;
-use calendar::months::is_day;
-use calendar::months::is_leap;
 use calendar::months::is_month;
 use dcf77_table::groups;
 use reading::Fault;
 use reading::Reading;
 use reading::Verdict;
+use reading::checks::day_bad;
 use reading::checks::hour_bad;
 use reading::checks::minute_bad;
+use reading::checks::weekday_wrong;
 use reading::faults::refusal_of;
 use reading::years::year_of;
 ghost use mathlib.Core.Path.{_≡_};
@@ -31,9 +30,7 @@ ghost use Rattle.dcf77.specs.Reader.{
   digitFault,
   odd,
   parityFault,
-  dayBad,
   fieldFault,
-  weekdayWrong,
   ruleFault,
   saidFault,
   answerOf,
@@ -105,12 +102,6 @@ fn parity_fault(s: &[u8]) -> Verdict
     first(minute, Fault::Parity(places::MINUTE_PARITY), rest)
 }
 
-fn day_bad(r: Reading) -> bool
-    ensures { λ b. ⌜ b ≡ dayBad r ⌝ }
-{
-    !is_day(is_leap(r.year), r.month, r.day)
-}
-
 fn field_fault(r: Reading, w: u32) -> Verdict
     ensures { λ v. ⌜ v ≡ fieldFault r w ⌝ }
 {
@@ -120,12 +111,6 @@ fn field_fault(r: Reading, w: u32) -> Verdict
     let rest = first(day_bad(r), Fault::Date(places::DAY), rest);
     let rest = first(hour_bad(r.hour), Fault::Time(places::HOUR), rest);
     first(minute_bad(r.minute), Fault::Time(places::MINUTE), rest)
-}
-
-fn weekday_wrong(r: Reading, w: u32) -> bool
-    ensures { λ b. ⌜ b ≡ weekdayWrong r w ⌝ }
-{
-    w != week_of(r)
 }
 
 fn zone_bad(z: u32) -> bool

@@ -8,11 +8,16 @@ use super::rules::offset_in;
 use super::rules::places;
 use super::rules::week_of;
 use super::rules::zone_of;
+use pulses::bit;
 use reading::Fault;
 use reading::Reading;
 use reading::Verdict;
 use reading::Written;
-use reading::checks::checked;
+use reading::checks::date_bad;
+use reading::checks::leap_second_bad;
+use reading::checks::lowest;
+use reading::checks::quality_bad;
+use reading::checks::time_bad;
 use reading::faults::refusal_of;
 use reading::faults::written;
 use reading::offsets::same_offset;
@@ -25,21 +30,9 @@ ghost use Rattle.reading.specs.Years.{base};
 ghost use Rattle.reading.specs.Writing.{writtenOf, filled};
 ghost use Rattle.dcf77_table.specs.Table.{minuteMarks};
 ghost use Rattle.dcf77.specs.Forms.{lengthOf, dueLong};
-ghost use Rattle.dcf77.specs.Writer.{bit, plainOf, evened, withParity, valuesOf, bytesOf, checkedWith, notCarried, carryFault, isGood, needed, roomFault, writeFault};
+ghost use Rattle.dcf77.specs.Writer.{plainOf, evened, withParity, valuesOf, bytesOf, checkedWith, notCarried, carryFault, isGood, needed, roomFault, writeFault};
 
 const LAST_HEAD: u16 = 32767;
-
-// A quality that no reading may have.
-const BAD_QUALITY: u8 = 16;
-
-fn bit(flag: bool) -> u32
-    ensures { λ r. ⌜ r ≡ bit flag ⌝ }
-{
-    if flag {
-        return 1;
-    }
-    0
-}
 
 // What each group says, in the order of the groups, with the parity marks left 0.
 fn plain_values(r: Reading, head: u16) -> [u32; 32]
@@ -104,16 +97,18 @@ fn lay_minute(out: &mut [u8], long: bool, plain: [u32; 32])
     out[places::DATE_PARITY] = date;
 }
 
-// A head that is too large is judged where a quality is: by the shared checks, of the reading with a quality too large.
+// The shared checks, with the head's beside the quality's.
 fn checked_with(r: Reading, head: u16) -> Verdict
     ensures { λ v. ⌜ v ≡ checkedWith base r head ⌝ }
 {
-    if LAST_HEAD < head {
-        let mut spoiled = r;
-        spoiled.quality = BAD_QUALITY;
-        return checked(spoiled);
-    }
-    checked(r)
+    let offset = r.offset;
+    lowest(
+        time_bad(r),
+        date_bad(r),
+        quality_bad(r.quality) | (LAST_HEAD < head),
+        !offset.is_good(),
+        leap_second_bad(r),
+    )
 }
 
 fn not_carried(r: Reading) -> bool

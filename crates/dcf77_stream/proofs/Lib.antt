@@ -6,3 +6,4 @@ pub mod MinutesTold
 pub mod StandIns
 pub mod Worked
 pub mod Unique
+pub mod OwedLaws

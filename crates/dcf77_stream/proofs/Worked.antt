@@ -9,6 +9,7 @@ use lib.ListN.{set, replicate}
 use Rattle.calendar.specs.Calendar.{leapYear, daysIn, daysBefore, yearLength, daysBeforeYear, dayOfYear, dayNumber, weekdayOf, isMonth, lastDay, isDay}
 use Rattle.reading.specs.declared.Reading.{Reading}
 use Rattle.reading.specs.Faults.{number}
+use Rattle.reading.specs.Checks.{dayBad, weekdayWrong}
 use Rattle.reading.specs.Years.{base, yearOf}
 use Rattle.pulses.specs.Row.{groupOf, weightOf, pulseAllowed, goodPulses, shareOf, sumOf, sumsOf, upTo, onesFrom, liesWithin, onesOf}
 use Rattle.dcf77_table.specs.Table.{sharedMarks, lastMarks, minuteMarks}
@@ -16,7 +17,7 @@ use Rattle.dcf77.specs.declared.Answer.{Answer}
 use Rattle.dcf77.specs.declared.Answer.the-variants.{Time as Told, No as Not}
 use Rattle.dcf77.specs.Zones.{offsetIn, zoneOf, zoneBad}
 use Rattle.dcf77.specs.Forms.{dueLong}
-use Rattle.dcf77.specs.Reader.{isLong, tableFor, says, readingOf, lengthBad, digitFault, odd, parityFault, dayBad, fieldFault, weekdayWrong, ruleFault, saidFault, readFault, readDcf77}
+use Rattle.dcf77.specs.Reader.{isLong, tableFor, says, readingOf, lengthBad, digitFault, odd, parityFault, fieldFault, ruleFault, saidFault, readFault, readDcf77}
 use Rattle.streams.specs.Stream.{lastOf, owedTo}
 use Rattle.dcf77_stream.specs.declared.Said.{Said}
 use Rattle.dcf77_stream.specs.declared.Said.the-variants.{Time, No, Nothing}
@@ -66,12 +67,12 @@ reads : readDcf77 base marks8 ≡ Told case8 0
 unfolding readDcf77 readFault saidFault ruleFault weekdayWrong fieldFault dayBad parityFault odd digitFault lengthBad readingOf says tableFor isLong dueLong zoneBad zoneOf offsetIn minuteMarks sharedMarks lastMarks goodPulses pulseAllowed sumsOf sumOf shareOf upTo groupOf weightOf onesOf liesWithin onesFrom yearOf leapYear daysIn daysBefore yearLength daysBeforeYear dayOfYear dayNumber weekdayOf isMonth lastDay isDay
 reads = refl
 
-refuses : readDcf77 base (set marks8 58 0) ≡ Not (record { code = 4; place = 0 })
+refuses : readDcf77 base (set marks8 58 0) ≡ Not (record { code = 4; place = 58 })
 unfolding number readDcf77 readFault saidFault parityFault odd digitFault lengthBad readingOf says tableFor isLong minuteMarks sharedMarks lastMarks goodPulses pulseAllowed sumsOf sumOf shareOf upTo groupOf weightOf onesOf liesWithin onesFrom
 refuses = refl
 
 pub case-8 : answers base (2 ∷ marks8) ≡ replicate 60 Nothing ++ (Time case8 0 ∷ [])
 case-8 = fresh-says-owed base (2 ∷ marks8) ∙ outlines ∙ ap (λ (a : Answer). once (saidOf a)) reads
 
-pub case-8-refused : answers base (2 ∷ set marks8 58 0) ≡ replicate 60 Nothing ++ (No (record { code = 4; place = 0 }) ∷ [])
+pub case-8-refused : answers base (2 ∷ set marks8 58 0) ≡ replicate 60 Nothing ++ (No (record { code = 4; place = 58 }) ∷ [])
 case-8-refused = fresh-says-owed base (2 ∷ set marks8 58 0) ∙ outlines-cleared ∙ ap (λ (a : Answer). once (saidOf a)) refuses

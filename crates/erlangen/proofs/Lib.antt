@@ -9,3 +9,4 @@ pub mod Promises
 pub mod Unique
 pub mod Worked
 pub mod StandIns
+pub mod OwedLaws

@@ -16,10 +16,10 @@ use Rattle.reading.specs.Years.{base, inHundred, yearOf}
 use Rattle.reading.specs.Offset.{west, east, offsetGood}
 use Rattle.reading.specs.Universal.{utcMinutes, onDay, utcOf}
 use Rattle.reading.specs.Leap.{closesWithLeap, leapMinute, sixtyBad}
-use Rattle.reading.specs.Checks.{timeBad, dateBad, checkedOf}
+use Rattle.reading.specs.Checks.{timeBad, dateBad, checkedOf, dayBad, weekdayWrong}
 use Rattle.strings.specs.declared.Answer.{Answer}
 use Rattle.strings.specs.declared.Answer.the-variants.{Time, No}
-use Rattle.strings.specs.Checks.{dayBad, monthBad, weekdayBad, weekdayWrong, faultOf}
+use Rattle.strings.specs.Checks.{monthBad, weekdayBad, faultOf}
 use Rattle.erlangen.specs.Layout.{size, layout}
 use Rattle.erlangen.specs.Offset.{wholeUnits, unitsOf, tooFar, offsetBad, signed, offsetOf, isBehind, minutesOf}
 use Rattle.erlangen.specs.Meaning.{shows, weekdaySaid, coastingSaid, offsetWrong, markWrong, readingOf, faultIn, readErlangen}
@@ -107,9 +107,8 @@ atLeapSecond = record {
 abbrev pub hourAhead : ℤ
 hourAhead = pos 2
 
--- a refusal of this code whose place is 0
-abbrev refused : ℕ → Answer
-refused code = No (record { code = code; place = 0 })
+abbrev refused : ℕ → ℕ → Answer
+refused code place = No (record { code = code; place = place })
 
 pub worked-bytes : bytesOf (reading hourAhead) false (replicate 26 32) ≡ string usual (ahead 0 1 0 0) none
 unfolding reading string bytesOf dateBytes timeBytes offsetBytes flagBytes isBehind minutesOf west east tens ones weekdayOf dayNumber dayOfYear daysBeforeYear daysBefore daysIn yearLength leapYear
@@ -154,10 +153,10 @@ pub worked-read :
     × (map (readErlangen base) lettered
     ≡ Time (flagged (pos 2) false false false 15) false ∷ Time (flagged (pos 2) false false false 0) true ∷ Time (flagged (pos 4) true false false 0) false
     ∷ Time (flagged (pos 2) false false true 0) false ∷ Time (flagged (pos 2) false true false 0) false ∷ [])
-    × (readErlangen base (string usual (ahead 0 1 0 0) (letters 37 32 32 32 32 32)) ≡ No (record { code = 2; place = 32 }))
-    × (map (readErlangen base) out-of-range ≡ replicate 3 (refused 5))
-    × (readErlangen base (string (on 0 2 3) (behind 0 0 0 0) none) ≡ refused 6)
-    × (map (readErlangen base) offset-wrong ≡ replicate 6 (refused 8))
-    × (map (readErlangen base) leap-wrong ≡ replicate 3 (refused 9))
+    × (readErlangen base (string usual (ahead 0 1 0 0) (letters 37 32 32 32 32 32)) ≡ refused 2 32)
+    × (map (readErlangen base) out-of-range ≡ refused 16 11 ∷ refused 16 11 ∷ refused 16 4 ∷ [])
+    × (readErlangen base (string (on 0 2 3) (behind 0 0 0 0) none) ≡ refused 6 11)
+    × (map (readErlangen base) offset-wrong ≡ replicate 6 (refused 8 24))
+    × (map (readErlangen base) leap-wrong ≡ replicate 3 (refused 9 20))
 unfolding reading string readErlangen faultIn readingOf coastingSaid weekdaySaid offsetWrong markWrong shows layout goodPlaces allowed within beside exactly from either packed digit pair yearOf offsetOf offsetBad wholeUnits unitsOf tooFar signed faultOf dayBad monthBad weekdayBad weekdayWrong sixtyBad leapMinute closesWithLeap utcOf utcMinutes onDay west east isMonth isDay lastDay weekdayOf dayNumber dayOfYear daysBeforeYear daysBefore daysIn yearLength leapYear number
 worked-read = (refl, refl, refl, refl, refl, refl, refl, refl, refl)

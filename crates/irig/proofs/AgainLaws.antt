@@ -21,23 +21,17 @@ use Rattle.reading.specs.Offset.{opposite}
 use Rattle.reading.specs.Universal.{dateOf}
 use Rattle.reading.proofs.YearLaws.{digits-of, year-in}
 use Rattle.reading.proofs.CheckLaws.{Checked}
-use Rattle.pulses.specs.Row.{groups, firstData}
+use Rattle.pulses.specs.Row.{groups, firstData, bit}
+use Rattle.pulses.proofs.BitLaws.{bit-there}
 use Rattle.irig_table.specs.Table.{leapPending, deletion, changePending, summer, minus, offsetHours, halfHour, quality, parity}
 use Rattle.irig_table.proofs.TableLaws.{widths}
 use Rattle.irig.specs.Offset.{isMinus, halvesOf}
 use Rattle.irig.specs.Meaning.{said, isSet, secondIn, minuteIn, hourIn, dayIn, digitsIn, halvesIn, addedIn, yearIn, monthDayIn, readingOf}
-use Rattle.irig.specs.Writing.{bit, groupsOf, valuesOf}
+use Rattle.irig.specs.Writing.{groupsOf, valuesOf}
 use Rattle.irig.proofs.Each.{Each, each, each-at}
 use Rattle.irig.proofs.GroupLaws.{Values}
 use Rattle.irig.proofs.OffsetLaws.{sign-back, halves-back, local-of-amount}
 use Rattle.irig.proofs.FieldLaws.{Digits, Sound}
-
-set-bit : (n : ℕ) → n < 2 → bit (eqb n 1) ≡ n
-set-bit n h = go (eqb n 1) refl
-  where
-    go : (b : Bool) → eqb n 1 ≡ b → bit b ≡ n
-    go true e = sym (eqb-true n 1 e)
-    go false e = let d = eqb-false n 1 e in omega arith
 
 -- a date whose day is one of its month's stands in the calendar
 is-date : (t : Date) → Real t → isDate t ≡ true
@@ -138,10 +132,10 @@ module _ (base : ℕ) (v : List ℕ) (w : Values v) (d : Digits v) (s : Sound ba
   unfolding valuesOf groupsOf readingOf secondIn minuteIn hourIn dayIn digitsIn halvesIn
   again =
       let f = bounds in
-      let a = set-bit (said v leapPending) (bounds .leap) in
-      let b = set-bit (said v changePending) (bounds .change) in
-      let c = set-bit (said v summer) (bounds .summer-time) in
-      let e = ap bit sign-again ∙ set-bit (said v minus) (bounds .sign) in
+      let a = bit-there (said v leapPending) (bounds .leap) in
+      let b = bit-there (said v changePending) (bounds .change) in
+      let c = bit-there (said v summer) (bounds .summer-time) in
+      let e = ap bit sign-again ∙ bit-there (said v minus) (bounds .sign) in
       let g = halves-again in
       let h = day-again in
       let i = digits-again in

@@ -13,11 +13,11 @@ use Rattle.reading.specs.Universal.{utcOf}
 use Rattle.reading.specs.Leap.{sixtyBad}
 use Rattle.reading.specs.Checks.{hourBad, minuteBad, secondBad}
 use Rattle.reading.proofs.CheckLaws.{first-good}
+use Rattle.pulses.specs.Row.{overNine}
 use Rattle.irig_table.specs.Table.{seconds, minutes, hours, days, tensOfDays, years, tensOfYears, deletion, minus, secondOfDay}
 use Rattle.irig.specs.Meaning.{
   said,
   isSet,
-  overNine,
   secondIn,
   minuteIn,
   hourIn,

@@ -13,3 +13,4 @@ pub mod RoundTrip
 pub mod Unique
 pub mod Worked
 pub mod StandIns
+pub mod OwedLaws

@@ -23,14 +23,14 @@ use Rattle.reading.specs.Checks.{checkedOf}
 use Rattle.reading.specs.Stamps.{hasStamp, stampNumber, stampOf}
 use Rattle.reading.proofs.CheckLaws.{clash, checked-is, is-checked}
 use Rattle.reading.proofs.StampLaws.{is-stamp, refused-by-12}
-use Rattle.pulses.specs.Row.{groupOf, weightOf}
+use Rattle.pulses.specs.Row.{groupOf, weightOf, bit}
 use Rattle.pulses.proofs.EntryLaws.{pulse-data}
 use Rattle.pulses.proofs.RowLaws.{pulse-at}
 use Rattle.irig_table.specs.Table.{framePulses}
 use Rattle.irig_table.proofs.TableLaws.{frame-length}
 use Rattle.irig.specs.declared.Answer.the-variants.{Time}
 use Rattle.irig.specs.Faults.{frameLength, signPlace, readFrame}
-use Rattle.irig.specs.Writing.{bit, groupsOf, valuesOf, parityOf, frameOf, writeFault}
+use Rattle.irig.specs.Writing.{groupsOf, valuesOf, parityOf, frameOf, writeFault}
 use Rattle.irig.proofs.OffsetLaws.{minus-ahead}
 use Rattle.irig.proofs.WriteLaws.{room-enough, writable, written-frame, front}
 use Rattle.irig.proofs.FrameLaws.{frame-read, accepted, reading-is-checked, frame-again}

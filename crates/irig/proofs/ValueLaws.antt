@@ -17,6 +17,7 @@ use Rattle.reading.specs.Universal.{dateOf}
 use Rattle.reading.proofs.YearLaws.{year-back}
 use Rattle.reading.proofs.CheckLaws.{Checked}
 use Rattle.irig_table.specs.Table.{leapPending, deletion, changePending, summer, minus, quality, secondOfDay}
+use Rattle.pulses.proofs.BitLaws.{bit-small, bit-back}
 use Rattle.irig_table.proofs.TableLaws.{widths}
 use Rattle.irig.specs.Offset.{isMinus, halvesOf}
 use Rattle.irig.specs.Meaning.{
@@ -34,19 +35,11 @@ use Rattle.irig.specs.Meaning.{
   monthDayIn,
   readingOf,
 }
-use Rattle.irig.specs.Writing.{bit, groupsOf, valuesOf}
+use Rattle.irig.specs.Writing.{groupsOf, valuesOf}
 use Rattle.irig.proofs.Each.{Each, each-at}
 use Rattle.irig.proofs.GroupLaws.{Values}
 use Rattle.irig.proofs.OffsetLaws.{amount-back, no-minus-zero, offset-back, halves-few}
 use Rattle.irig.proofs.FieldLaws.{Digits, Sound}
-
-bit-small : (b : Bool) → bit b < 2
-bit-small true = omega arith
-bit-small false = omega arith
-
-bit-set : (b : Bool) → eqb (bit b) 1 ≡ b
-bit-set true = refl
-bit-set false = refl
 
 -- ---- the values of a reading that passes the checks
 
@@ -119,7 +112,7 @@ module _ (base : ℕ) (r : Reading) (p : ℕ) (c : Checked base r) where
 
   sign-is : isSet (valuesOf r p) minus ≡ isMinus (opposite (r .offset .0))
   unfolding valuesOf groupsOf
-  sign-is = bit-set (isMinus (opposite (r .offset .0)))
+  sign-is = bit-back (isMinus (opposite (r .offset .0)))
 
   added-back : addedIn (valuesOf r p) ≡ opposite (r .offset .0)
   unfolding addedIn
@@ -130,15 +123,15 @@ module _ (base : ℕ) (r : Reading) (p : ℕ) (c : Checked base r) where
 
   summer-back : isSet (valuesOf r p) summer ≡ r .summer
   unfolding valuesOf groupsOf
-  summer-back = bit-set (r .summer)
+  summer-back = bit-back (r .summer)
 
   leap-back : isSet (valuesOf r p) leapPending ≡ r .leap
   unfolding valuesOf groupsOf
-  leap-back = bit-set (r .leap)
+  leap-back = bit-back (r .leap)
 
   change-back : isSet (valuesOf r p) changePending ≡ r .change
   unfolding valuesOf groupsOf
-  change-back = bit-set (r .change)
+  change-back = bit-back (r .change)
 
   quality-back : said (valuesOf r p) quality ≡ r .quality
   unfolding valuesOf groupsOf

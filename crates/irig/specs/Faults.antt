@@ -12,11 +12,11 @@ use Rattle.reading.specs.Faults.{number, first}
 use Rattle.reading.specs.Universal.{utcOf}
 use Rattle.reading.specs.Leap.{sixtyBad}
 use Rattle.reading.specs.Checks.{hourBad, minuteBad, secondBad}
-use Rattle.pulses.specs.Row.{goodPulses, sumsOf, onesFrom}
+use Rattle.pulses.specs.Row.{goodPulses, sumsOf, onesFrom, overNine}
 use Rattle.irig_table.specs.Table.{framePulses, seconds, minutes, hours, days, tensOfDays, years, tensOfYears, deletion}
 use Rattle.irig.specs.declared.Answer.{Answer}
 use Rattle.irig.specs.declared.Answer.the-variants.{Time as Told, No}
-use Rattle.irig.specs.Meaning.{isSet, overNine, secondIn, minuteIn, hourIn, readingOf, dayBad, secondOfDayWrong, offsetBad}
+use Rattle.irig.specs.Meaning.{isSet, secondIn, minuteIn, hourIn, readingOf, dayBad, secondOfDayWrong, offsetBad}
 
 -- the pulses of a frame
 abbrev pub frameLength : ℕ
@@ -64,12 +64,12 @@ digitFault second minute hour day year rest =
 abbrev pub parityFault : Bool → Verdict → Verdict
 parityFault odd rest = first odd (Parity parityPlace) rest
 
--- code 5: a field of the time out of range, the lowest first
+-- code 15: a field of the time out of range, the lowest first
 abbrev pub timeFault : Bool → Bool → Bool → Verdict → Verdict
 timeFault second minute hour rest =
     first second (Time secondPlace) (first minute (Time minutePlace) (first hour (Time hourPlace) rest))
 
--- code 5 for the day of the year, then 7, 8, 9 and 10
+-- code 16 for the day of the year, then 7, 8, 9 and 10
 abbrev pub restFault : Bool → Bool → Bool → Bool → Bool → Verdict
 restFault day ofday offset leap deleted =
     first day (Date dayPlace)
@@ -80,14 +80,14 @@ restFault day ofday offset leap deleted =
 unfoldable pub isOdd : List ℕ → Bool
 isOdd s = not (eqb (onesFrom 1 parityPlace s % 2) 0)
 
--- codes 5 to 10, of the values of the groups
+-- codes 15, 16, 7, 8, 9 and 10, of the values of the groups
 unfoldable pub fieldsFault : ℕ → List ℕ → Verdict
 fieldsFault base v =
     timeFault (secondBad (secondIn v)) (minuteBad (minuteIn v)) (hourBad (hourIn v))
     (restFault (dayBad base v) (secondOfDayWrong v) (offsetBad v)
     (sixtyBad (utcOf (readingOf base v)) (secondIn v)) (isSet v deletion))
 
--- codes 3 to 10
+-- codes 3 and 4 before them
 unfoldable pub valuesFault : ℕ → List ℕ → Bool → Verdict
 valuesFault base v odd =
     digitFault (overNine v seconds) (overNine v minutes) (overNine v hours)

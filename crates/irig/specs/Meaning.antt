@@ -2,7 +2,7 @@
 use mathlib.Core.Bool.{Bool, _&&_, _||_, not}
 use mathlib.Core.List.{List}
 use Prim.Native.Nat.{ℕ, _+_, _*_, _<_, _≤_}
-use lib.Dec.{eqb, ltb}
+use lib.Dec.{eqb}
 use lib.IntN.{ℤ}
 use lib.ListN.{getD}
 use Rattle.calendar.specs.declared.MonthDay.{MonthDay}
@@ -42,10 +42,6 @@ said v g = getD v g 0
 -- group g, which has one pulse, is set
 abbrev pub isSet : List ℕ → ℕ → Bool
 isSet v g = eqb (said v g) 1
-
--- group g is no decimal digit
-abbrev pub overNine : List ℕ → ℕ → Bool
-overNine v g = ltb 9 (said v g)
 
 -- no group of a field, but for the second of the day, says 16 or more: it has four pulses at most
 abbrev pub Small : List ℕ → Type 0

@@ -1,5 +1,4 @@
 -- Writing an IEEE 1344 frame: what each group of its pulses says, the frame, and why a reading is refused.
-use mathlib.Core.Bool.{Bool, cond}
 use mathlib.Core.List.{List, [], _∷_}
 use Prim.Native.Nat.{ℕ, _/_, _%_}
 use lib.Dec.{ltb}
@@ -11,15 +10,11 @@ use Rattle.reading.specs.Faults.{first}
 use Rattle.reading.specs.Offset.{opposite}
 use Rattle.reading.specs.Universal.{dateOf}
 use Rattle.reading.specs.Checks.{checkedOf}
-use Rattle.pulses.specs.Row.{row, onesFrom}
+use Rattle.pulses.specs.Row.{row, onesFrom, bit}
 use Rattle.irig_table.specs.Table.{framePulses}
 use Rattle.irig.specs.Offset.{isMinus, halvesOf}
 use Rattle.irig.specs.Meaning.{secondOfDayAt}
 use Rattle.irig.specs.Faults.{frameLength}
-
--- a flag as a pulse
-abbrev pub bit : Bool → ℕ
-bit b = cond b 1 0
 
 -- the value of each of the 32 groups, in the order of their numbers, for a day of the year and an amount added to local time
 unfoldable pub groupsOf : Reading → ℕ → ℕ → ℕ → ℕ → List ℕ

@@ -31,8 +31,9 @@ ghost use lib.ListN.{length};
 ghost use Rattle.calendar.specs.Calendar.{leapYear, inYear};
 ghost use Rattle.reading.specs.Years.{base};
 ghost use Rattle.reading.specs.Offset.{offsetGood};
+ghost use Rattle.pulses.specs.Row.{overNine};
 ghost use Rattle.irig_table.specs.Table.{minus, secondOfDay};
-ghost use Rattle.irig.specs.Meaning.{said, isSet, overNine, Small, halvesIn, readingOf, secondOfDayAt};
+ghost use Rattle.irig.specs.Meaning.{said, isSet, Small, halvesIn, readingOf, secondOfDayAt};
 ghost use Rattle.irig.specs.Faults.{frameLength, digitFault, timeFault, restFault, parityFault, isOdd, fieldsFault, valuesFault};
 
 // ---- the first pulse of each field

@@ -7,6 +7,7 @@ use super::offset::halves_of;
 use super::offset::is_minus;
 use calendar::Date;
 use calendar::days::day_of_year;
+use pulses::bit;
 use reading::Fault;
 use reading::Reading;
 use reading::Verdict;
@@ -17,16 +18,7 @@ ghost use Prim.Native.Nat.{_≤_};
 ghost use lib.ListN.{length, drop};
 ghost use Rattle.reading.specs.Years.{base};
 ghost use Rattle.irig.specs.Faults.{frameLength};
-ghost use Rattle.irig.specs.Writing.{bit, groupsOf, valuesOf, frameOf, writeFault};
-
-fn bit(flag: bool) -> u32
-    ensures { λ r. ⌜ r ≡ bit flag ⌝ }
-{
-    if flag {
-        return 1;
-    }
-    0
-}
+ghost use Rattle.irig.specs.Writing.{groupsOf, valuesOf, frameOf, writeFault};
 
 // The value of each group; the parity's is 0.
 fn groups_of(r: Reading, day: u32, minus: u32, halves: u32) -> [u32; 32]

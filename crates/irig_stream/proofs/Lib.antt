@@ -4,3 +4,4 @@ pub mod FramesTold
 pub mod StandIns
 pub mod Worked
 pub mod Unique
+pub mod OwedLaws

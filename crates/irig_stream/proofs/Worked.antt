@@ -55,9 +55,9 @@ outlines-7 : owedTo (owed base) [] pulses7 ≡ replicate 99 Nothing ++ (saidOf (
 unfolding owedTo owed sayOf lastOf outlineOf inOutline groupOf framePulses upTo among ones
 outlines-7 = refl
 
-read-7 : readFrame base pulses7 ≡ Not (record { code = 7; place = 0 })
+read-7 : readFrame base pulses7 ≡ Not (record { code = 7; place = 80 })
 unfolding number readFrame faultIn valuesFault fieldsFault isOdd secondIn minuteIn hourIn dayIn digitsIn yearIn dayBad secondOfDayWrong goodPulses pulseAllowed sumsOf sumOf shareOf upTo among ones groupOf weightOf framePulses onesFrom leapYear inYear yearLength yearOf
 read-7 = refl
 
-pub case-7 : answers base pulses7 ≡ replicate 99 Nothing ++ (No (record { code = 7; place = 0 }) ∷ [])
+pub case-7 : answers base pulses7 ≡ replicate 99 Nothing ++ (No (record { code = 7; place = 80 }) ∷ [])
 case-7 = fresh-says-owed base pulses7 ∙ outlines-7 ∙ ap (λ (a : Answer). replicate 99 Nothing ++ (saidOf a ∷ [])) read-7

@@ -8,3 +8,4 @@ pub mod RoundTrip
 pub mod Worked
 pub mod StandIns
 pub mod Unique
+pub mod OwedLaws

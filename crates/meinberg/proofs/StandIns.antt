@@ -21,7 +21,7 @@ use Rattle.meinberg.proofs.Worked.{leapSecond, leapDay, noSuchDay, atLe
 leap-second-read : readMeinberg base leapSecond ≡ Time atLeapSecond false
 leap-second-read = cc worked
 
-no-such-day-refused : readMeinberg base noSuchDay ≡ No (record { code = 5; place = 0 })
+no-such-day-refused : readMeinberg base noSuchDay ≡ No (record { code = 16; place = 3 })
 no-such-day-refused = cc worked
 
 -- ---- two strings never say the same time with the same flags

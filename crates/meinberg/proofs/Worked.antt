@@ -13,13 +13,13 @@ use Rattle.reading.specs.Leap.{closesWithLeap, leapMinute, sixtyBad}
 use Rattle.reading.specs.Offset.{west, east, offsetGood}
 use Rattle.reading.specs.Universal.{utcMinutes, onDay, utcOf}
 use Rattle.reading.specs.Years.{base, inHundred, yearOf}
-use Rattle.reading.specs.Checks.{timeBad, dateBad, checkedOf}
+use Rattle.reading.specs.Checks.{timeBad, dateBad, checkedOf, dayBad, weekdayWrong}
 use Rattle.reading.specs.Stamps.{hasStamp, stampNumber, stampAt, stampOf}
 use Rattle.wire.specs.Digits.{digit, pair}
 use Rattle.wire.specs.Layout.{packed, exactly, from, either, oneOf, within, beside, allowed, goodPlaces}
 use Rattle.strings.specs.declared.Answer.{Answer}
 use Rattle.strings.specs.declared.Answer.the-variants.{Time, No}
-use Rattle.strings.specs.Checks.{dayBad, monthBad, weekdayBad, weekdayWrong, faultOf}
+use Rattle.strings.specs.Checks.{monthBad, weekdayBad, faultOf}
 use Rattle.meinberg.specs.Layout.{layout}
 use Rattle.meinberg.specs.Zones.{offsetOf, summerOf}
 use Rattle.meinberg.specs.Meaning.{qualityOf, coastingIn, meaning, faultIn, readMeinberg}
@@ -95,14 +95,13 @@ onLeapDay offset summer leap change quality =
       quality = quality;
     }
 
--- a refusal of this code whose place is 0
-abbrev refused : ℕ → Answer
-refused code = No (record { code = code; place = 0 })
+abbrev refused : ℕ → ℕ → Answer
+refused code place = No (record { code = code; place = place })
 
--- case 2; case 5: "29.02.24 is weekday 4. 29.02.23: code 5."
+-- case 2; case 5: "29.02.24 is weekday 4. 29.02.23: code 5", which by L5 is 16 at the day
 pub worked :
     map (readMeinberg base) (leapSecond ∷ leapDay ∷ noSuchDay ∷ [])
-    ≡ Time atLeapSecond false ∷ Time (onLeapDay (pos 2) false false false 0) false ∷ No (record { code = 5; place = 0 }) ∷ []
+    ≡ Time atLeapSecond false ∷ Time (onLeapDay (pos 2) false false false 0) false ∷ refused 16 3 ∷ []
 unfolding readMeinberg faultIn meaning coastingIn qualityOf offsetOf summerOf
     layout packed exactly from either oneOf within beside allowed goodPlaces digit pair
     faultOf dayBad monthBad weekdayBad weekdayWrong number yearOf
@@ -111,7 +110,7 @@ unfolding readMeinberg faultIn meaning coastingIn qualityOf offsetOf summerOf
 worked = refl
 
 -- "x is `U` (offset 0), space (offset +2 half hours) or `S` (+4, summer)", "u is `#` (quality 15) or space (0)", "v is `*`
--- (coasting) or space", "y is `!`, `A` or space"; "Weekday 0, 8 or 9 is code 5", another than the date's is 6, and `%` is no u
+-- (coasting) or space", "y is `!`, `A` or space"; weekday 0, 8 or 9 is code 16, another than the date's is 6, and `%` is no u
 pub worked-letters :
     (map (readMeinberg base) (
     string 52 32 32 85 32 ∷ string 52 32 32 32 32 ∷ string 52 32 32 83 32
@@ -120,7 +119,7 @@ pub worked-letters :
     ∷ Time (onLeapDay (pos 2) false false false 15) false ∷ Time (onLeapDay (pos 2) false false false 0) true
     ∷ Time (onLeapDay (pos 2) false false true 0) false ∷ Time (onLeapDay (pos 2) false true false 0) false ∷ [])
     × (map (readMeinberg base) (string 48 32 32 32 32 ∷ string 56 32 32 32 32 ∷ string 57 32 32 32 32 ∷ string 51 32 32 32 32 ∷ string 52 37 32 32 32 ∷ [])
-    ≡ refused 5 ∷ refused 5 ∷ refused 5 ∷ refused 6 ∷ No (record { code = 2; place = 27 }) ∷ [])
+    ≡ refused 16 14 ∷ refused 16 14 ∷ refused 16 14 ∷ refused 6 14 ∷ refused 2 27 ∷ [])
 unfolding readMeinberg faultIn meaning coastingIn qualityOf offsetOf summerOf
     layout packed exactly from either oneOf within beside allowed goodPlaces digit pair
     faultOf dayBad monthBad weekdayBad weekdayWrong number yearOf

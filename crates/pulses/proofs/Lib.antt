@@ -4,6 +4,7 @@ pub mod RowLaws
 pub mod SumLaws
 pub mod ScanLaws
 pub mod DigitLaws
+pub mod BitLaws
 pub mod TripLaws
 pub mod OnesLaws
 pub mod Unique

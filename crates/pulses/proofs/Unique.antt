@@ -12,6 +12,8 @@ use Rattle.pulses.proofs.group_of.Reads as group-of-reads
 use Rattle.pulses.proofs.group_of.Kinds as group-of-kinds
 use Rattle.pulses.proofs.weight_of.Reads as weight-of-reads
 use Rattle.pulses.proofs.weight_of.Kinds as weight-of-kinds
+use Rattle.pulses.proofs.bit.Reads as bit-reads
+use Rattle.pulses.proofs.bit.Kinds as bit-kinds
 use Rattle.pulses.proofs.scanned.Reads as scanned-reads
 use Rattle.pulses.proofs.scanned.Kinds as scanned-kinds
 use Rattle.pulses.proofs.lay.Reads as lay-reads
@@ -39,3 +41,6 @@ lay-one κs a x y e f p q = (cc, cc)
 
 pub outlined-one : Coincide 2 outlined-kinds.ps outlined-kinds.r outlined-reads.Post
 outlined-one κs a x y e f p q = cc
+
+pub bit-one : Coincide 0 bit-kinds.ps bit-kinds.r bit-reads.Post
+bit-one κs a x y e f p q = cc

@@ -68,6 +68,10 @@ unfoldable pub upTo : (ℕ → ℕ) → ℕ → List ℕ
 upTo f zero = []
 upTo f (suc n) = upTo f n ++ (f n ∷ [])
 
+-- group g of the values v says more than a decimal digit
+abbrev pub overNine : List ℕ → ℕ → Bool
+overNine v g = ltb 9 (getD v g 0)
+
 -- no more places than these are read
 abbrev pub mostPlaces : ℕ
 mostPlaces = 4096
@@ -85,6 +89,10 @@ unfoldable pub scanOf : List ℕ → List ℕ → Scan
 scanOf t s = record { good = goodOf t s; sums = sumsOf t (take (goodOf t s) s) }
 
 -- ---- writing
+
+-- a flag as a pulse
+abbrev pub bit : Bool → ℕ
+bit flag = cond flag 1 0
 
 -- the binary digit of n that weighs w: 1 where n and w have it in common
 unfoldable pub digitOf : ℕ → ℕ → ℕ

@@ -9,6 +9,7 @@ ghost use lib.ListN.{length};
 ghost use Rattle.pulses.specs.Row.{
   groupOf,
   weightOf,
+  bit,
   digitOf,
   scanOf,
   fitsIn,
@@ -52,6 +53,16 @@ pub fn weight_of(entry: u32) -> u32
         return 0;
     }
     entry % WEIGHTS
+}
+
+// A flag as a pulse.
+pub fn bit(flag: bool) -> u32
+    ensures { λ r. ⌜ r ≡ bit flag ⌝ }
+{
+    if flag {
+        return 1;
+    }
+    0
 }
 
 fn smaller(a: usize, b: usize) -> usize
@@ -147,7 +158,7 @@ fn lies_within(length: usize, from: usize, count: usize) -> bool
     (count <= length - from) & (count <= MOST)
 }
 
-fn bit(pulse: u8) -> u64
+fn low_bit(pulse: u8) -> u64
     ensures { λ r. ⌜ r ≡ pulse % 2 ⌝ }
 {
     (pulse % 2) as u64
@@ -161,7 +172,7 @@ fn packed(pulses: &[u8], from: usize, count: usize) -> u64
     let mut word: u64 = 0;
     let mut i = 0;
     while i < count {
-        word = word * 2 + bit(pulses[from + i]);
+        word = word * 2 + low_bit(pulses[from + i]);
         i += 1;
     }
     word

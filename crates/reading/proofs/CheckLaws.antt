@@ -3,9 +3,9 @@ use mathlib.Core.Bool.{Bool, true, false, not, _&&_, _||_}
 use mathlib.Core.Path.{_≡_, refl, sym, _∙_}
 use Prim.Native.Nat.{ℕ, _≤_, _<_}
 use native.Mathlib.Omega.{arith}
-use lib.Dec.{ltb}
-use borrow.Author.Tests.{not-false, ltb-false, le-ltb}
-use Rattle.calendar.specs.Calendar.{isDate}
+use lib.Dec.{eqb, ltb}
+use borrow.Author.Tests.{not-false, ltb-false, le-ltb, eqb-true, eq-eqb}
+use Rattle.calendar.specs.Calendar.{leapYear, weekdayOf, isMonth, isDay, isDate}
 use Rattle.laws.proofs.Bools.{both, neither}
 use Rattle.reading.specs.declared.Reading.{Reading}
 use Rattle.reading.specs.declared.Fault.{Fault}
@@ -16,7 +16,7 @@ use Rattle.reading.specs.Years.{inHundred}
 use Rattle.reading.specs.Offset.{offsetGood}
 use Rattle.reading.specs.Universal.{dateOf, utcOf}
 use Rattle.reading.specs.Leap.{sixtyBad}
-use Rattle.reading.specs.Checks.{hourBad, minuteBad, secondBad, timeBad, dateBad, qualityBad, lowestOf, checkedOf}
+use Rattle.reading.specs.Checks.{hourBad, minuteBad, secondBad, timeBad, dateBad, qualityBad, lowestOf, checkedOf, dayBad, weekdayWrong}
 
 pub clash : {A : Type 0} → _≡_ {A = ℕ} 0 1 → A
 clash z = absurd (no z)
@@ -84,3 +84,21 @@ is-checked base r p =
       p .offset,
       p .leap,
     )
+
+-- ---- what a reader's two checks tell, and back
+
+pub date-there : (r : Reading) → dayBad r ≡ false → not (isMonth (r .month)) ≡ false → isDate (dateOf r) ≡ true
+unfolding dayBad isDate
+date-there r d m = rw (not-false (isMonth (r .month)) m, not-false (isDay (leapYear (r .year)) (r .month) (r .day)) d)
+
+pub date-parts : (r : Reading) → isDate (dateOf r) ≡ true → (isMonth (r .month) ≡ true) × (dayBad r ≡ false)
+unfolding dayBad isDate
+date-parts r e = let p = both (isMonth (r .month)) (isDay (leapYear (r .year)) (r .month) (r .day)) e in (p .0, rw (p .1))
+
+pub weekday-there : (r : Reading) (w : ℕ) → weekdayWrong r w ≡ false → w ≡ weekdayOf (dateOf r)
+unfolding weekdayWrong
+weekday-there r w e = eqb-true w (weekdayOf (dateOf r)) (not-false (eqb w (weekdayOf (dateOf r))) e)
+
+pub weekday-fits : (r : Reading) (w : ℕ) → w ≡ weekdayOf (dateOf r) → weekdayWrong r w ≡ false
+unfolding weekdayWrong
+weekday-fits r w e = rw (eq-eqb w (weekdayOf (dateOf r)) e)

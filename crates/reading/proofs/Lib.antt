@@ -3,7 +3,10 @@ pub mod YearLaws
 pub mod OffsetLaws
 pub mod LeapLaws
 pub mod CheckLaws
+pub mod RefusalLaws
 pub mod UtcLaws
 pub mod StampLaws
 pub mod StampOrder
+pub mod OneDue
+pub mod OwedLaws
 pub mod Unique

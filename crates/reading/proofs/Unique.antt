@@ -40,6 +40,18 @@ use Rattle.reading.proofs.checks.leap_second_bad.Kinds as leap-second-b
 use Rattle.reading.proofs.checks.leap_second_bad.Reads as leap-second-bad-reads
 use Rattle.reading.proofs.checks.checked.Kinds as checked-kinds
 use Rattle.reading.proofs.checks.checked.Reads as checked-reads
+use Rattle.reading.proofs.checks.time_bad.Kinds as time-bad-kinds
+use Rattle.reading.proofs.checks.time_bad.Reads as time-bad-reads
+use Rattle.reading.proofs.checks.date_bad.Kinds as date-bad-kinds
+use Rattle.reading.proofs.checks.date_bad.Reads as date-bad-reads
+use Rattle.reading.proofs.checks.quality_bad.Kinds as quality-bad-kinds
+use Rattle.reading.proofs.checks.quality_bad.Reads as quality-bad-reads
+use Rattle.reading.proofs.checks.lowest.Kinds as lowest-kinds
+use Rattle.reading.proofs.checks.lowest.Reads as lowest-reads
+use Rattle.reading.proofs.checks.day_bad.Kinds as day-bad-kinds
+use Rattle.reading.proofs.checks.day_bad.Reads as day-bad-reads
+use Rattle.reading.proofs.checks.weekday_wrong.Kinds as weekday-wrong-kinds
+use Rattle.reading.proofs.checks.weekday_wrong.Reads as weekday-wrong-reads
 use Rattle.reading.proofs.stamps.stamp_of.Kinds as stamp-of-kinds
 use Rattle.reading.proofs.stamps.stamp_of.Reads as stamp-of-reads
 
@@ -99,6 +111,24 @@ leap-second-bad-one κs a x y e f p q = cc
 
 pub checked-one : Coincide 0 checked-kinds.ps checked-kinds.r checked-reads.Post
 checked-one κs a x y e f p q = cc
+
+pub time-bad-one : Coincide 0 time-bad-kinds.ps time-bad-kinds.r time-bad-reads.Post
+time-bad-one κs a x y e f p q = cc
+
+pub date-bad-one : Coincide 0 date-bad-kinds.ps date-bad-kinds.r date-bad-reads.Post
+date-bad-one κs a x y e f p q = cc
+
+pub quality-bad-one : Coincide 0 quality-bad-kinds.ps quality-bad-kinds.r quality-bad-reads.Post
+quality-bad-one κs a x y e f p q = cc
+
+pub lowest-one : Coincide 0 lowest-kinds.ps lowest-kinds.r lowest-reads.Post
+lowest-one κs a x y e f p q = cc
+
+pub day-bad-one : Coincide 0 day-bad-kinds.ps day-bad-kinds.r day-bad-reads.Post
+day-bad-one κs a x y e f p q = cc
+
+pub weekday-wrong-one : Coincide 0 weekday-wrong-kinds.ps weekday-wrong-kinds.r weekday-wrong-reads.Post
+weekday-wrong-one κs a x y e f p q = cc
 
 pub stamp-of-one : Coincide 0 stamp-of-kinds.ps stamp-of-kinds.r stamp-of-reads.Post
 stamp-of-one κs a x y e f p q = cc

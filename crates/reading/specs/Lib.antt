@@ -1,4 +1,5 @@
 pub mod Faults
+pub mod Refusals
 pub mod Writing
 pub mod Offset
 pub mod Years
@@ -6,4 +7,5 @@ pub mod Universal
 pub mod Leap
 pub mod Checks
 pub mod Stamps
+pub mod Objections
 pub mod Order

@@ -1,4 +1,4 @@
-// The checks of a reading that every writer and stamping share, in the order of their codes.
+// The checks of a reading: those that every writer and stamping share, in the order of their codes, and two of the readers'.
 use super::Fault;
 use super::Reading;
 use super::Verdict;
@@ -6,13 +6,16 @@ use super::leap::leap_minute;
 use super::universal::utc_of;
 use super::years::in_hundred;
 use calendar::Date;
+use calendar::days::weekday;
 use calendar::months::is_date;
+use calendar::months::is_day;
+use calendar::months::is_leap;
 ghost use mathlib.Core.Path.{_≡_};
 ghost use mathlib.Core.Bool.{not};
 ghost use Rattle.reading.specs.Years.{base};
 ghost use Rattle.reading.specs.Universal.{utcOf};
 ghost use Rattle.reading.specs.Leap.{sixtyBad};
-ghost use Rattle.reading.specs.Checks.{hourBad, minuteBad, secondBad, timeBad, dateBad, qualityBad, checkedOf, lowestOf};
+ghost use Rattle.reading.specs.Checks.{hourBad, minuteBad, secondBad, timeBad, dateBad, qualityBad, checkedOf, lowestOf, dayBad, weekdayWrong};
 
 pub fn hour_bad(hour: u8) -> bool
     ensures { λ r. ⌜ r ≡ hourBad hour ⌝ }
@@ -32,13 +35,13 @@ pub fn second_bad(second: u8) -> bool
     60 < second
 }
 
-fn time_bad(r: Reading) -> bool
+pub fn time_bad(r: Reading) -> bool
     ensures { λ b. ⌜ b ≡ timeBad r ⌝ }
 {
     hour_bad(r.hour) | (minute_bad(r.minute) | second_bad(r.second))
 }
 
-fn date_bad(r: Reading) -> bool
+pub fn date_bad(r: Reading) -> bool
     ensures { λ b. ⌜ b ≡ dateBad base r ⌝ }
 {
     let date = Date {
@@ -49,7 +52,7 @@ fn date_bad(r: Reading) -> bool
     !(in_hundred(r.year) & is_date(date))
 }
 
-fn quality_bad(quality: u8) -> bool
+pub fn quality_bad(quality: u8) -> bool
     ensures { λ r. ⌜ r ≡ qualityBad quality ⌝ }
 {
     15 < quality
@@ -65,7 +68,7 @@ pub fn leap_second_bad(r: Reading) -> bool
     !leap_minute(utc_of(r))
 }
 
-fn lowest(time: bool, date: bool, quality: bool, offset: bool, sixty: bool) -> Verdict
+pub fn lowest(time: bool, date: bool, quality: bool, offset: bool, sixty: bool) -> Verdict
     ensures { λ v. ⌜ v ≡ lowestOf time date quality offset sixty ⌝ }
 {
     if time {
@@ -97,4 +100,23 @@ pub fn checked(r: Reading) -> Verdict
         !offset.is_good(),
         leap_second_bad(r),
     )
+}
+
+// The month has no such day.
+pub fn day_bad(r: Reading) -> bool
+    ensures { λ b. ⌜ b ≡ dayBad r ⌝ }
+{
+    !is_day(is_leap(r.year), r.month, r.day)
+}
+
+// The weekday that is said is not that of the date.
+pub fn weekday_wrong(r: Reading, said: u32) -> bool
+    ensures { λ b. ⌜ b ≡ weekdayWrong r said ⌝ }
+{
+    let date = Date {
+        year: r.year,
+        month: r.month,
+        day: r.day,
+    };
+    said != weekday(date) as u32
 }

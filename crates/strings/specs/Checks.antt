@@ -1,33 +1,29 @@
--- The first fault of a date and a time that a string says: codes 5, 6, 8 and 9, and within a code by rising place.
-use mathlib.Core.Bool.{Bool, not, _&&_, _||_}
+-- The first fault of a date and a time that a string says: codes 15, 16, 6, 8 and 9, and within a code by rising place.
+use mathlib.Core.Bool.{Bool, true, not, _||_}
+use mathlib.Core.List.{List}
+use mathlib.Core.Path.{_≡_}
 use Prim.Native.Nat.{ℕ}
-use lib.Dec.{eqb, ltb}
-use Rattle.calendar.specs.Calendar.{leapYear, weekdayOf, isMonth, isDay}
+use lib.Dec.{ltb}
+use Rattle.calendar.specs.Calendar.{isMonth}
 use Rattle.reading.specs.declared.Reading.{Reading}
 use Rattle.reading.specs.declared.Verdict.{Verdict}
 use Rattle.reading.specs.declared.Verdict.the-variants.{Good, Bad}
 use Rattle.reading.specs.declared.Fault.the-variants.{Time, Date, Weekday, Offset, LeapSecond}
 use Rattle.reading.specs.Faults.{number, first}
-use Rattle.reading.specs.Universal.{dateOf, utcOf}
+use Rattle.reading.specs.Universal.{utcOf}
 use Rattle.reading.specs.Leap.{sixtyBad}
-use Rattle.reading.specs.Checks.{hourBad, minuteBad, secondBad}
+use Rattle.reading.specs.Checks.{hourBad, minuteBad, secondBad, dayBad, weekdayWrong}
+use Rattle.reading.specs.Refusals.{Objection, quiet, Owed}
 use Rattle.strings.specs.declared.Places.{Places}
 use Rattle.strings.specs.declared.Answer.{Answer}
 use Rattle.strings.specs.declared.Answer.the-variants.{Time as Told, No}
 
-unfoldable pub dayBad : Reading → Bool
-dayBad r = not (isDay (leapYear (r .year)) (r .month) (r .day))
-
 unfoldable pub monthBad : Reading → Bool
 monthBad r = not (isMonth (r .month))
 
--- "Weekday 0, 8 or 9 is code 5."
+-- "Weekday 0, 8 or 9 is code 5", which by L5 is 16 for "a weekday out of range"
 unfoldable pub weekdayBad : ℕ → Bool
 weekdayBad w = ltb w 1 || ltb 7 w
-
--- "weekday doesn't fit the date"
-unfoldable pub weekdayWrong : Reading → ℕ → Bool
-weekdayWrong r w = not (eqb w (weekdayOf (dateOf r)))
 
 -- code 9: second 60 not allowed, or the mark of a leap second against the second
 abbrev pub restFault : Bool → Bool → Bool → Places → Verdict
@@ -50,3 +46,8 @@ faultOf r w offset mark p =
 abbrev pub answerOf : Verdict → Reading → Bool → Answer
 answerOf Good r coasting = Told r coasting
 answerOf (Bad fault) r coasting = No (number fault)
+
+-- what is promised of an answer: where a time is told nothing is objected, and a refusal is the one to give
+abbrev pub AnswerOwed : List Objection → List ℕ → Answer → Type 0
+AnswerOwed objections codes (Told r coasting) = quiet objections ≡ true
+AnswerOwed objections codes (No x) = Owed objections codes x

@@ -2,22 +2,20 @@
 // codes and, within one code, of their places.
 pub mod letters;
 
-use calendar::Date;
-use calendar::days::weekday;
-use calendar::months::is_day;
-use calendar::months::is_leap;
 use calendar::months::is_month;
 use reading::Fault;
 use reading::Reading;
 use reading::Refusal;
 use reading::Verdict;
+use reading::checks::day_bad;
 use reading::checks::hour_bad;
 use reading::checks::leap_second_bad;
 use reading::checks::minute_bad;
 use reading::checks::second_bad;
+use reading::checks::weekday_wrong;
 use reading::faults::refusal_of;
 ghost use mathlib.Core.Path.{_≡_};
-ghost use Rattle.strings.specs.Checks.{dayBad, monthBad, weekdayBad, weekdayWrong, timeFault, dateFault, restFault, faultOf, answerOf};
+ghost use Rattle.strings.specs.Checks.{monthBad, weekdayBad, timeFault, dateFault, restFault, faultOf, answerOf};
 
 // What a string's reader answers: the time with its coasting mark, or why there is none.
 pub enum Answer {
@@ -36,12 +34,6 @@ pub struct Places {
     pub offset: usize,
 }
 
-fn day_bad(r: Reading) -> bool
-    ensures { λ b. ⌜ b ≡ dayBad r ⌝ }
-{
-    !is_day(is_leap(r.year), r.month, r.day)
-}
-
 fn month_bad(r: Reading) -> bool
     ensures { λ b. ⌜ b ≡ monthBad r ⌝ }
 {
@@ -52,17 +44,6 @@ fn weekday_bad(weekday: u8) -> bool
     ensures { λ b. ⌜ b ≡ weekdayBad weekday ⌝ }
 {
     (weekday < 1) | (7 < weekday)
-}
-
-fn weekday_wrong(r: Reading, said: u8) -> bool
-    ensures { λ b. ⌜ b ≡ weekdayWrong r said ⌝ }
-{
-    let date = Date {
-        year: r.year,
-        month: r.month,
-        day: r.day,
-    };
-    said != weekday(date)
 }
 
 fn rest_fault(wrong: bool, offset: bool, leap: bool, p: Places) -> Verdict
@@ -116,7 +97,7 @@ pub fn fault_of(r: Reading, said: u8, offset: bool, mark: bool, p: Places) -> Ve
     ensures { λ v. ⌜ v ≡ faultOf r said offset mark p ⌝ }
 {
     let leap = leap_second_bad(r) | mark;
-    let rest = rest_fault(weekday_wrong(r, said), offset, leap, p);
+    let rest = rest_fault(weekday_wrong(r, said as u32), offset, leap, p);
     let date = date_fault(day_bad(r), month_bad(r), weekday_bad(said), p, rest);
     time_fault(
         hour_bad(r.hour),

@@ -1,5 +1,5 @@
 -- "Cases 1 to 10 are proved of the written definitions by a single statement over a list of them." The same statement holds of
--- a second list, which pins codes, places, letters and pulses that the cases leave open, and of a third of month ends.
+-- a second list, which pins codes, letters and pulses that the cases leave open, of a third of month ends, and of a fourth of places.
 use mathlib.Core.List.{List, map}
 use mathlib.Core.Path.{_≡_, refl}
 use Rattle.calendar.specs.Calendar.{leapYear, daysIn, daysBefore, yearLength, daysBeforeYear, dayOfYear, dayNumber, weekdayOf, isMonth, lastDay, isDay, isDate, dayBefore, dayAfter, yearAfter, monthUpTo, inYear, monthDay}
@@ -8,7 +8,7 @@ use Rattle.reading.specs.Offset.{west, east, offsetGood, localOf}
 use Rattle.reading.specs.Years.{inHundred, yearOf}
 use Rattle.reading.specs.Universal.{utcMinutes, onDay, utcOf}
 use Rattle.reading.specs.Leap.{closesWithLeap, leapMinute, sixtyBad, withinMinute, leapWindow, changeWindow, afterLeap}
-use Rattle.reading.specs.Checks.{timeBad, dateBad, checkedOf}
+use Rattle.reading.specs.Checks.{timeBad, dateBad, checkedOf, dayBad, weekdayWrong}
 use Rattle.reading.specs.Stamps.{hasStamp, stampNumber, stampAt, stampOf}
 use Rattle.wire.specs.Digits.{digit, pair, tens, ones}
 use Rattle.wire.specs.Layout.{packed, exactly, from, either, oneOf, within, beside, allowed, goodPlaces, printable, printables}
@@ -41,19 +41,20 @@ use Rattle.worked.specs.Given.{among, withOnes, turned}
 use Rattle.worked.specs.Cases.{cases}
 use Rattle.worked.specs.Pinned.{pinned}
 use Rattle.worked.specs.MonthEnds.{monthEnds}
+use Rattle.worked.specs.Places.{places}
 
 -- each question of the list is answered as the paper answers it
 abbrev pub AsPaper : List Case → Type 0
 AsPaper l = map (λ (c : Case). answerTo (c .asked)) l ≡ map (λ (c : Case). c .answer) l
 
-pub worked : AsPaper cases × AsPaper pinned × AsPaper monthEnds
-unfolding cases pinned monthEnds among withOnes turned answerTo
+pub worked : AsPaper cases × AsPaper pinned × AsPaper monthEnds × AsPaper places
+unfolding cases pinned monthEnds places among withOnes turned answerTo
     stampOf stampAt stampNumber hasStamp checkedOf timeBad dateBad sixtyBad leapMinute closesWithLeap afterLeap withinMinute leapWindow changeWindow
     utcOf onDay utcMinutes inHundred yearOf west east offsetGood localOf number
     leapYear daysIn daysBefore yearLength daysBeforeYear dayOfYear dayNumber weekdayOf
     isMonth lastDay isDay isDate dayBefore dayAfter yearAfter monthUpTo inYear monthDay
     digit pair tens ones packed exactly from either oneOf within beside allowed goodPlaces printable printables
-    strings.dayBad strings.monthBad strings.weekdayBad strings.weekdayWrong strings.faultOf
+    dayBad weekdayWrong strings.monthBad strings.weekdayBad strings.faultOf
     meinberg-layout.layout zones.offsetOf zones.summerOf zones.isZone zones.zoneCarried zones.zoneLetter
     meinberg.qualityOf meinberg.coastingIn meinberg.meaning meinberg.faultIn meinberg.readMeinberg
     meinberg-writing.announcement meinberg-writing.bytesOf meinberg-writing.notCarried meinberg-writing.writeFault
@@ -71,10 +72,10 @@ unfolding cases pinned monthEnds among withOnes turned answerTo
     sharedMarks lastMarks minuteMarks minute-zones.offsetIn minute-zones.zoneOf minute-zones.zoneBad
     forms.lengthOf forms.lastOf forms.dueLong
     minute.isLong minute.tableFor minute.says minute.readingOf minute.lengthBad minute.digitFault minute.odd minute.parityFault
-    minute.dayBad minute.fieldFault minute.weekdayWrong minute.ruleFault minute.saidFault minute.readFault minute.readDcf77
+    minute.fieldFault minute.ruleFault minute.saidFault minute.readFault minute.readDcf77
     minute-writing.plainOf minute-writing.evened minute-writing.withParity minute-writing.valuesOf minute-writing.bytesOf
     minute-writing.headBad minute-writing.checkedWith minute-writing.notCarried minute-writing.carryFault
     minute-writing.needed minute-writing.roomFault minute-writing.writeFault
     pendingOf readString bridgeAnswer bridgeFilled
     bodyLength readBody recordAt nextAt recordsFrom decimal digitsBefore lineAt linesOf bodyText listing
-worked = (refl, refl, refl)
+worked = (refl, refl, refl, refl)

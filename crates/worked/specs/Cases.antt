@@ -1,4 +1,4 @@
--- "Worked dates and frames": the cases of document 01 as data, in its order and with its numbers.
+-- "Worked dates and frames": the cases of document 01 as data, in its order and with its numbers; codes and places as L5 has them.
 use mathlib.Core.Bool.{false}
 use mathlib.Core.List.{List, [], _∷_, _++_}
 use Prim.Native.Nat.{ℕ}
@@ -60,14 +60,14 @@ cases =
     ∷ gives (stamp (at 2017 1 1 0 0 0 (plus 0))) (stamped 536550210)
     -- 4. 2017-01-02 00:59:60, offset +2: code 9
     ∷ gives (stamp (at 2017 1 2 0 59 60 (plus 2))) (refused 9 0)
-    -- 5. 29.02.24 is weekday 4; 29.02.23: code 5
+    -- 5. 29.02.24 is weekday 4; 29.02.23: code 5, which by L5 is 16 at the day
     ∷ gives (weekday (date 2024 2 29)) (day 4)
-    ∷ gives (meinberg string5) (refused 5 0)
+    ∷ gives (meinberg string5) (refused 16 3)
     -- 6. 2024-02-29 12:34:56, offset +2, no flags, quality 0: the ones of the IEEE 1344 frame
     ∷ gives (toPulses (case6 (plus 2)) (sevens 102)) (wrote 100 (frame6 ++ sevens 2))
     ∷ gives (pulses frame6) (told (case6 (plus 2)))
     -- 7. the same with pulse 84 cleared: code 7
-    ∷ gives (pulses (turned (84 ∷ []) frame6)) (refused 7 0)
+    ∷ gives (pulses (turned (84 ∷ []) frame6)) (refused 7 80)
     -- 8. 2024-02-29 12:34, offset +2, head 0: the ones of the DCF77 minute, 2 at 59
     ∷ gives (toMarks case8 0 (sevens 62)) (wrote 60 (minute8 ++ sevens 2))
     ∷ gives (marks minute8) (toldMinute case8 0)
@@ -79,16 +79,16 @@ cases =
     ∷ gives (toPulses (case6 (plus 28)) (sevens 100)) (wrote 100 (frame10 (64 ∷ 66 ∷ 67 ∷ 68 ∷ 75 ∷ [])))
     ∷ gives (pulses (frame10 (64 ∷ 66 ∷ 67 ∷ 68 ∷ 75 ∷ []))) (told (case6 (plus 28)))
     ∷ gives (toPulses (case6 (plus 29)) (sevens 100)) (wroteNone 8 0 (sevens 100))
-    ∷ gives (pulses (frame10 (64 ∷ 66 ∷ 67 ∷ 68 ∷ 70 ∷ []))) (refused 8 0)
+    ∷ gives (pulses (frame10 (64 ∷ 66 ∷ 67 ∷ 68 ∷ 70 ∷ []))) (refused 8 64)
     ∷ gives (toPulses (case6 (minus 24)) (sevens 100)) (wrote 100 (frame10 (67 ∷ 68 ∷ 75 ∷ [])))
     ∷ gives (pulses (frame10 (67 ∷ 68 ∷ 75 ∷ []))) (told (case6 (minus 24)))
     ∷ gives (toPulses (case6 (minus 25)) (sevens 100)) (wroteNone 8 0 (sevens 100))
-    ∷ gives (pulses (frame10 (67 ∷ 68 ∷ 70 ∷ []))) (refused 8 0)
+    ∷ gives (pulses (frame10 (67 ∷ 68 ∷ 70 ∷ []))) (refused 8 64)
     -- the same in Uni Erlangen strings: `+14:00`, `+14:30`, `-12:00`, `-12:30`
     ∷ gives (erlangen (string10 (43 ∷ 49 ∷ 52 ∷ 58 ∷ 48 ∷ 48 ∷ []))) (toldString (case6 (plus 28)) false)
-    ∷ gives (erlangen (string10 (43 ∷ 49 ∷ 52 ∷ 58 ∷ 51 ∷ 48 ∷ []))) (refused 8 0)
+    ∷ gives (erlangen (string10 (43 ∷ 49 ∷ 52 ∷ 58 ∷ 51 ∷ 48 ∷ []))) (refused 8 24)
     ∷ gives (erlangen (string10 (45 ∷ 49 ∷ 50 ∷ 58 ∷ 48 ∷ 48 ∷ []))) (toldString (case6 (minus 24)) false)
-    ∷ gives (erlangen (string10 (45 ∷ 49 ∷ 50 ∷ 58 ∷ 51 ∷ 48 ∷ []))) (refused 8 0)
+    ∷ gives (erlangen (string10 (45 ∷ 49 ∷ 50 ∷ 58 ∷ 51 ∷ 48 ∷ []))) (refused 8 24)
     -- the largest stamp
     ∷ gives (stamp (at 2099 12 31 23 59 60 (plus 0))) (stamped 3155796524)
     ∷ []

@@ -3,3 +3,4 @@ pub mod Given
 pub mod Cases
 pub mod Pinned
 pub mod MonthEnds
+pub mod Places

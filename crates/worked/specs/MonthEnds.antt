@@ -69,14 +69,14 @@ plainMarks last = minuteWith last (18 ∷ 20 ∷ 29 ∷ 35 ∷ 36 ∷ 42 ∷ 44 
 abbrev marchBook : List ℕ
 marchBook = (1 ∷ lastOfFebruary) ++ (1 ∷ dayTooEarly) ++ (5 ∷ marchMarks 60) ++ (4 ∷ marchMarks 59)
 
--- `at kind answer value place`, `0 1 ok 762575225 0`, `33 1 no 9 0`, `66 5 ok 762575226 0` and `128 4 no 9 0`, a line feed behind each
+-- `at kind answer value place`, `0 1 ok 762575225 0`, `33 1 no 9 24`, `66 5 ok 762575226 0` and `128 4 no 9 59`, a line feed behind each
 abbrev marchLines : List ℕ
 marchLines =
     97 ∷ 116 ∷ 32 ∷ 107 ∷ 105 ∷ 110 ∷ 100 ∷ 32 ∷ 97 ∷ 110 ∷ 115 ∷ 119 ∷ 101 ∷ 114 ∷ 32 ∷ 118 ∷ 97 ∷ 108 ∷ 117 ∷ 101 ∷ 32 ∷ 112 ∷ 108 ∷ 97 ∷ 99 ∷ 101 ∷ 10
     ∷ 48 ∷ 32 ∷ 49 ∷ 32 ∷ 111 ∷ 107 ∷ 32 ∷ 55 ∷ 54 ∷ 50 ∷ 53 ∷ 55 ∷ 53 ∷ 50 ∷ 50 ∷ 53 ∷ 32 ∷ 48 ∷ 10
-    ∷ 51 ∷ 51 ∷ 32 ∷ 49 ∷ 32 ∷ 110 ∷ 111 ∷ 32 ∷ 57 ∷ 32 ∷ 48 ∷ 10
+    ∷ 51 ∷ 51 ∷ 32 ∷ 49 ∷ 32 ∷ 110 ∷ 111 ∷ 32 ∷ 57 ∷ 32 ∷ 50 ∷ 52 ∷ 10
     ∷ 54 ∷ 54 ∷ 32 ∷ 53 ∷ 32 ∷ 111 ∷ 107 ∷ 32 ∷ 55 ∷ 54 ∷ 50 ∷ 53 ∷ 55 ∷ 53 ∷ 50 ∷ 50 ∷ 54 ∷ 32 ∷ 48 ∷ 10
-    ∷ 49 ∷ 50 ∷ 56 ∷ 32 ∷ 52 ∷ 32 ∷ 110 ∷ 111 ∷ 32 ∷ 57 ∷ 32 ∷ 48 ∷ 10
+    ∷ 49 ∷ 50 ∷ 56 ∷ 32 ∷ 52 ∷ 32 ∷ 110 ∷ 111 ∷ 32 ∷ 57 ∷ 32 ∷ 53 ∷ 57 ∷ 10
     ∷ []
 
 -- ---- the list
@@ -118,7 +118,7 @@ monthEnds =
     ∷ gives (stamp (sixtyOn 2024 5 1)) (refused 9 0)
     -- strings: 29.02.24 `U` is accepted, 28.02.24 is code 9, 28.02.23 is accepted, and so are 31.03. and 30.04.
     ∷ gives (meinberg lastOfFebruary) (toldString (sixtyOn 2024 2 29) false)
-    ∷ gives (meinberg dayTooEarly) (refused 9 0)
+    ∷ gives (meinberg dayTooEarly) (refused 9 24)
     ∷ gives (meinberg (meinbergAt 28 2 23 2 23 59 60 utc)) (toldString (sixtyOn 2023 2 28) false)
     ∷ gives (meinberg (meinbergAt 31 3 24 7 23 59 60 utc)) (toldString (sixtyOn 2024 3 31) false)
     ∷ gives (meinberg (meinbergAt 30 4 24 2 23 59 60 utc)) (toldString (sixtyOn 2024 4 30) false)
@@ -128,23 +128,23 @@ monthEnds =
     ∷ gives (stampOfString (meinbergAt 1 3 24 5 1 59 60 summerLeap)) (stamped 762575225)
     ∷ gives (stamp (at 2024 2 29 16 59 60 (minus 14))) (stamped 762575225)
     -- a local month end that is none of UTC: 29.02.24 at +2, 31.03.24 at +4
-    ∷ gives (meinberg (meinbergAt 29 2 24 4 23 59 60 winter)) (refused 9 0)
-    ∷ gives (meinberg (meinbergAt 31 3 24 7 23 59 60 summer)) (refused 9 0)
+    ∷ gives (meinberg (meinbergAt 29 2 24 4 23 59 60 winter)) (refused 9 24)
+    ∷ gives (meinberg (meinbergAt 31 3 24 7 23 59 60 summer)) (refused 9 24)
     -- the pending bit, pulse 60: clear at 23:59:00, set at 23:59:01 and 23:59:59, clear at 23:59:60
     ∷ gives (bridged Meinberg (lastOfApril 0) (sevens 100)) (wrote 100 (aprilFrame [] (82 ∷ 86 ∷ 88 ∷ 93 ∷ 95 ∷ 97 ∷ [])))
     ∷ gives (bridged Meinberg (lastOfApril 1) (sevens 100)) (wrote 100 (aprilFrame (1 ∷ []) (60 ∷ 80 ∷ 82 ∷ 86 ∷ 88 ∷ 93 ∷ 95 ∷ 97 ∷ [])))
     ∷ gives (bridged Meinberg (lastOfApril 59) (sevens 100)) (wrote 100 (aprilFrame (1 ∷ 4 ∷ 6 ∷ 8 ∷ []) (60 ∷ 75 ∷ 80 ∷ 81 ∷ 82 ∷ 83 ∷ 84 ∷ 85 ∷ 86 ∷ 88 ∷ 93 ∷ 95 ∷ 97 ∷ [])))
     ∷ gives (bridged Meinberg (lastOfApril 60) (sevens 100)) (wrote 100 (aprilFrame (7 ∷ 8 ∷ []) (87 ∷ 88 ∷ 93 ∷ 95 ∷ 97 ∷ [])))
-    ∷ gives (bridged Meinberg dayTooEarly (sevens 100)) (wroteNone 9 0 (sevens 100))
+    ∷ gives (bridged Meinberg dayTooEarly (sevens 100)) (wroteNone 9 24 (sevens 100))
     -- "a 60-mark minute that announces a leap and names 00:00 UTC of such a first becomes 9"; the 61-mark one is accepted, and its
     -- stamp is the calendar's
-    ∷ gives (marks (marchMarks 59)) (refused 9 0)
+    ∷ gives (marks (marchMarks 59)) (refused 9 59)
     ∷ gives (marks (marchMarks 60)) (toldMinute (march true) 0)
     ∷ gives (toMarks (march true) 0 (sevens 62)) (wrote 61 (marchMarks 60 ++ sevens 1))
     ∷ gives (stamp (march true)) (stamped 762575226)
     -- unannounced it has 60 marks
     ∷ gives (marks (plainMarks 59)) (toldMinute (march false) 0)
-    ∷ gives (marks (plainMarks 60)) (refused 9 0)
+    ∷ gives (marks (plainMarks 60)) (refused 9 60)
     -- the same through the listing
     ∷ gives (listed marchBook) (text marchLines)
     ∷ []

@@ -73,28 +73,28 @@ pinned =
     ∷ gives (marks (turned (20 ∷ []) minute8)) (refused 2 20)
     ∷ gives (meinberg (meinberg6 32 32 32 88)) (refused 2 30)
     -- code 3, also where the parity is wrong: the second ends in 10, the minute in 12
-    ∷ gives (pulses (turned (3 ∷ 4 ∷ []) frame6)) (refused 3 0)
-    ∷ gives (marks (turned (24 ∷ []) minute8)) (refused 3 0)
+    ∷ gives (pulses (turned (3 ∷ 4 ∷ []) frame6)) (refused 3 1)
+    ∷ gives (marks (turned (24 ∷ []) minute8)) (refused 3 21)
     -- code 4: another parity
-    ∷ gives (pulses (turned (75 ∷ []) frame6)) (refused 4 0)
-    ∷ gives (marks (turned (28 ∷ []) minute8)) (refused 4 0)
-    -- code 5 before 8: minute 60 in zone 0,0; weekday 0; head 32768
-    ∷ gives (marks (turned (18 ∷ 23 ∷ 25 ∷ 27 ∷ 28 ∷ []) minute8)) (refused 5 0)
-    ∷ gives (marks (turned (44 ∷ 58 ∷ []) minute8)) (refused 5 0)
-    ∷ gives (toMarks case8 32768 (sevens 60)) (wroteNone 5 0 (sevens 60))
+    ∷ gives (pulses (turned (75 ∷ []) frame6)) (refused 4 75)
+    ∷ gives (marks (turned (28 ∷ []) minute8)) (refused 4 28)
+    -- codes 15, 16 and 17 before 8: minute 60 in zone 0,0; weekday 0 in zone 0,0; head 32768
+    ∷ gives (marks (turned (18 ∷ 23 ∷ 25 ∷ 27 ∷ 28 ∷ []) minute8)) (refused 15 21)
+    ∷ gives (marks (turned (18 ∷ 44 ∷ 58 ∷ []) minute8)) (refused 16 42)
+    ∷ gives (toMarks case8 32768 (sevens 60)) (wroteNone 17 0 (sevens 60))
     -- code 6 before 8: a Tuesday in zone 0,0
-    ∷ gives (marks (turned (18 ∷ 43 ∷ 44 ∷ []) minute8)) (refused 6 0)
+    ∷ gives (marks (turned (18 ∷ 43 ∷ 44 ∷ []) minute8)) (refused 6 42)
     -- code 7 before 8: minus zero, and another second of the day
-    ∷ gives (pulses (turned (65 ∷ 75 ∷ 84 ∷ []) frame6)) (refused 7 0)
+    ∷ gives (pulses (turned (65 ∷ 75 ∷ 84 ∷ []) frame6)) (refused 7 80)
     -- code 8: minus zero; zone 0,0 and zone 1,1
-    ∷ gives (pulses (turned (65 ∷ 75 ∷ []) frame6)) (refused 8 0)
-    ∷ gives (marks (turned (18 ∷ []) minute8)) (refused 8 0)
-    ∷ gives (marks (turned (17 ∷ []) minute8)) (refused 8 0)
+    ∷ gives (pulses (turned (65 ∷ 75 ∷ []) frame6)) (refused 8 64)
+    ∷ gives (marks (turned (18 ∷ []) minute8)) (refused 8 17)
+    ∷ gives (marks (turned (17 ∷ []) minute8)) (refused 8 17)
     -- code 9: `L` at second 56; 61 marks where no leap second is due
-    ∷ gives (erlangen (erlangen6 hourAhead (32 ∷ 32 ∷ 32 ∷ 32 ∷ 32 ∷ 32 ∷ 76 ∷ []))) (refused 9 0)
-    ∷ gives (marks (minuteWith 60 ones8)) (refused 9 0)
+    ∷ gives (erlangen (erlangen6 hourAhead (32 ∷ 32 ∷ 32 ∷ 32 ∷ 32 ∷ 32 ∷ 76 ∷ []))) (refused 9 20)
+    ∷ gives (marks (minuteWith 60 ones8)) (refused 9 60)
     -- code 10: pulse 61 is 1
-    ∷ gives (pulses (turned (61 ∷ 75 ∷ []) frame6)) (refused 10 0)
+    ∷ gives (pulses (turned (61 ∷ 75 ∷ []) frame6)) (refused 10 61)
     -- code 11: quality 3; both announcements; second 30
     ∷ gives (toMeinberg (leapDay 56 (plus 2) false false false 3) false (sevens 32)) (wroteNone 11 0 (sevens 32))
     ∷ gives (toMeinberg (leapDay 56 (plus 2) false true true 0) false (sevens 32)) (wroteNone 11 0 (sevens 32))

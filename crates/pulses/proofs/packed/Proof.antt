@@ -18,19 +18,19 @@ loop-holds c = (omega arith, packs-none _ _)
 mul-word : tie.Need-mul-word Inv-loop μ-loop
 mul-word c = omega (arith, packs-room _ _ _ _ 0 (c .before .loop .inv .1) (omega arith) (omega arith))
 
-add-bit : tie.Need-add-bit Inv-loop μ-loop
-add-bit c = omega arith
+add-low-bit : tie.Need-add-low-bit Inv-loop μ-loop
+add-low-bit c = omega arith
 
-shared-slice-read-bit : tie.Need-shared-slice-read-bit Inv-loop μ-loop
-shared-slice-read-bit c = omega arith
+shared-slice-read-low-bit : tie.Need-shared-slice-read-low-bit Inv-loop μ-loop
+shared-slice-read-low-bit c = omega arith
 
-bit-requires : tie.Need-bit-requires Inv-loop μ-loop
-bit-requires c κs = tt
+low-bit-requires : tie.Need-low-bit-requires Inv-loop μ-loop
+low-bit-requires c κs = tt
 
 add-word : tie.Need-add-word Inv-loop μ-loop
 add-word c =
     let l = c .before .before .before in
-    omega (arith, packs-room _ _ _ _ (c .bit .result) (l .loop .inv .1) (omega arith) (omega arith))
+    omega (arith, packs-room _ _ _ _ (c .low-bit .result) (l .loop .inv .1) (omega arith) (omega arith))
 
 add-i : tie.Need-add-i Inv-loop μ-loop
 add-i c = omega arith
@@ -41,7 +41,7 @@ loop-less c = omega arith
 loop-again : tie.Need-loop-again Inv-loop μ-loop
 loop-again c =
     let l = c .before .before .before in
-    (omega arith, packs-more _ _ _ _ _ (l .loop .inv .1) (c .bit .ensures))
+    (omega arith, packs-more _ _ _ _ _ (l .loop .inv .1) (c .low-bit .ensures))
 
 returns : tie.Need-returns Inv-loop μ-loop
 returns c =
@@ -56,9 +56,9 @@ packed-spec =
     μ-loop
     loop-holds
     mul-word
-    add-bit
-    shared-slice-read-bit
-    bit-requires
+    add-low-bit
+    shared-slice-read-low-bit
+    low-bit-requires
     add-word
     add-i
     loop-less

@@ -9,7 +9,8 @@ use Rattle.calendar.specs.Calendar.{weekdayOf}
 use Rattle.reading.specs.declared.Reading.{Reading}
 use Rattle.reading.specs.Universal.{dateOf}
 use Rattle.dcf77.specs.Zones.{zoneOf}
-use Rattle.dcf77.specs.Writer.{bit, plainOf}
+use Rattle.pulses.specs.Row.{bit}
+use Rattle.dcf77.specs.Writer.{plainOf}
 use Rattle.dcf77.proofs.writer.plain_values.Statement.{statement}
 use Rattle.dcf77.proofs.writer.plain_values.Tie as tie
 

@@ -1,8 +1,8 @@
--- `dcf77::reader::day_bad` meets its contract. Assumes nothing.
+-- `reading::checks::day_bad` meets its contract. Assumes nothing.
 use borrow.Author.Needs.{needs}
-use Rattle.dcf77.specs.Reader.{dayBad}
-use Rattle.dcf77.proofs.reader.day_bad.Statement.{statement}
-use Rattle.dcf77.proofs.reader.day_bad.Tie as tie
+use Rattle.reading.specs.Checks.{dayBad}
+use Rattle.reading.proofs.checks.day_bad.Statement.{statement}
+use Rattle.reading.proofs.checks.day_bad.Tie as tie
 
 is-leap-requires : tie.Need-is-leap-requires
 is-leap-requires c κs = search needs

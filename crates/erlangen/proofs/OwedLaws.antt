@@ -1,0 +1,44 @@
+-- The code and place of each refusal: the first of the order of the codes whose condition holds, and its lowest place.
+use mathlib.Core.Bool.{Bool}
+use mathlib.Core.List.{List, [], _∷_}
+use mathlib.Core.Path.{_≡_, refl}
+use Prim.Native.Nat.{ℕ}
+use lib.Dec.{ltb}
+use Rattle.reading.specs.declared.Reading.{Reading}
+use Rattle.reading.specs.declared.Fault.the-variants.{Length, Byte, NotCarried}
+use Rattle.reading.specs.declared.Verdict.the-variants.{Good}
+use Rattle.reading.specs.Writing.{writtenOf}
+use Rattle.reading.specs.Objections.{readingObjections, WrittenOwed}
+use Rattle.reading.proofs.RefusalLaws.{Through, none, judged, one-then-other, verdict-owed}
+use Rattle.reading.proofs.OwedLaws.{checked-through, written-owed}
+use Rattle.wire.specs.Layout.{printables}
+use Rattle.strings.specs.Checks.{faultOf, AnswerOwed}
+use Rattle.strings.proofs.OwedLaws.{answer-owed}
+use Rattle.erlangen.specs.Layout.{size, positionSize}
+use Rattle.erlangen.specs.Meaning.{readingOf, coastingSaid, faultIn, readErlangen}
+use Rattle.erlangen.specs.Writing.{notCarried, lengthBad, carriedOf, writeFault}
+use Rattle.erlangen.specs.Objections.{saidObjections, readObjections, writeObjections, readCodes, writeCodes}
+
+read-through : (base : ℕ) (s : List ℕ) → Through (readObjections base s) (faultIn base s)
+unfolding readObjections saidObjections faultIn faultOf
+read-through base s = search (judged, none) depth 20
+
+pub read-owed : (base : ℕ) (s : List ℕ) → AnswerOwed (readObjections base s) readCodes (readErlangen base s)
+unfolding readErlangen readObjections saidObjections
+read-owed base s =
+    answer-owed (readObjections base s) readCodes (faultIn base s) (readingOf base s) (coastingSaid s)
+    (verdict-owed readCodes (read-through base s) refl refl)
+
+module _ (base : ℕ) (r : Reading) (position : List ℕ) (room : ℕ) where
+  write-through : Through (writeObjections base r position room) (writeFault base r position room)
+  unfolding writeObjections writeFault carriedOf
+  write-through =
+      judged (lengthBad position room) Length 1 0 _ _ refl refl
+      (judged (ltb (printables position) positionSize) (Byte (printables position)) 2 (printables position) _ _ refl refl
+      (one-then-other (checked-through base r) (judged (notCarried (r .quality)) NotCarried 11 0 [] Good refl refl none)))
+
+  pub write-owed : WrittenOwed (writeObjections base r position room) writeCodes (writtenOf (writeFault base r position room) size)
+  unfolding writeObjections readingObjections
+  write-owed =
+      written-owed (writeObjections base r position room) writeCodes (writeFault base r position room) size
+      (verdict-owed writeCodes write-through refl refl)

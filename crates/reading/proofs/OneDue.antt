@@ -1,0 +1,63 @@
+-- At most one refusal is the one to give: what the order of the codes says of a refusal fixes its code and its place.
+use mathlib.Core.Bool.{Bool, true, false, not, _&&_, _||_}
+use mathlib.Core.List.{List, [], _∷_}
+use mathlib.Core.Logic.{⊎-elim}
+use mathlib.Core.Path.{_≡_, refl, sym, ap, _∙_}
+use Prim.Native.Nat.{ℕ, suc}
+use native.Mathlib.Omega.{arith}
+use lib.Dec.{eqb, ltb}
+use borrow.Author.Tests.{eq-eqb, eqb-true, ltb-false, not-true}
+use Rattle.laws.proofs.Bools.{both, either, neither, never}
+use Rattle.reading.specs.declared.Refusal.{Refusal}
+use Rattle.reading.specs.Refusals.{order, Objection, objection, standsAt, goesBefore, raised, unpreceded, due, among}
+
+-- a code of a list stands at a place of its own
+same-place : (codes : List ℕ) (c d : ℕ) → among codes c ≡ true → standsAt codes c ≡ standsAt codes d → c ≡ d
+same-place [] c d m e = never m
+same-place (k ∷ rest) c d m e = go (λ n f. same-place rest c d n f) (eqb k c) refl (eqb k d) refl
+  where
+    go : (among rest c ≡ true → standsAt rest c ≡ standsAt rest d → c ≡ d) → (a : Bool) → eqb k c ≡ a → (b : Bool) → eqb k d ≡ b → c ≡ d
+    go more true p true q = sym (eqb-true k c p) ∙ eqb-true k d q
+    go more true p false q = let z : _≡_ {A = ℕ} 0 (suc (standsAt rest d)) = rw (p, q) at e in absurd (omega arith)
+    go more false p true q = let z : _≡_ {A = ℕ} (suc (standsAt rest c)) 0 = rw (p, q) at e in absurd (omega arith)
+    go more false p false q =
+        let z : _≡_ {A = ℕ} (suc (standsAt rest c)) (suc (standsAt rest d)) = rw (p, q) at e in
+        more (rw p at m) (omega arith)
+
+-- a refusal as an objection
+abbrev again : Refusal → Objection
+again x = objection true (x .code) (x .place)
+
+moved : (o : Objection) (x y : Refusal) → o .code ≡ x .code → o .place ≡ x .place → goesBefore o y ≡ false → goesBefore (again x) y ≡ false
+moved o x y c p e = rw (sym c, sym p) e
+
+-- what is raised does not go before what nothing goes before
+not-before : (l : List Objection) (x y : Refusal) → raised l x ≡ true → unpreceded l y ≡ true → goesBefore (again x) y ≡ false
+unfolding raised unpreceded
+not-before [] x y r u = never r
+not-before (o ∷ l) x y r u =
+    let rest = both (not (o .holds && goesBefore o y)) (unpreceded l y) u in
+    ⊎-elim (λ h. here h (not-true (o .holds && goesBefore o y) (rest .0))) (λ h. not-before l x y h (rest .1))
+    (either (o .holds && (eqb (o .code) (x .code) && eqb (o .place) (x .place))) (raised l x) r)
+  where
+    here : (o .holds && (eqb (o .code) (x .code) && eqb (o .place) (x .place))) ≡ true → (o .holds && goesBefore o y) ≡ false
+        → goesBefore (again x) y ≡ false
+    here h n =
+        let a = both (o .holds) (eqb (o .code) (x .code) && eqb (o .place) (x .place)) h in
+        let b = both (eqb (o .code) (x .code)) (eqb (o .place) (x .place)) (a .1) in
+        moved o x y (eqb-true (o .code) (x .code) (b .0)) (eqb-true (o .place) (x .place) (b .1)) (rw (a .0) at n)
+
+pub due-one : (l : List Objection) (x y : Refusal) → among order (x .code) ≡ true → due l x ≡ true → due l y ≡ true → x ≡ y
+unfolding due
+due-one l x y m p q =
+    let a = both (raised l x) (unpreceded l x) p in
+    let b = both (raised l y) (unpreceded l y) q in
+    let xy = neither (ltb (standsAt order (x .code)) (standsAt order (y .code))) (eqb (x .code) (y .code) && ltb (x .place) (y .place)) (not-before l x y (a .0) (b .1)) in
+    let yx = neither (ltb (standsAt order (y .code)) (standsAt order (x .code))) (eqb (y .code) (x .code) && ltb (y .place) (x .place)) (not-before l y x (b .0) (a .1)) in
+    let up = ltb-false (standsAt order (x .code)) (standsAt order (y .code)) (xy .0) in
+    let down = ltb-false (standsAt order (y .code)) (standsAt order (x .code)) (yx .0) in
+    let code = same-place order (x .code) (y .code) m (omega arith) in
+    let low = ltb-false (x .place) (y .place) (rw (eq-eqb (x .code) (y .code) code) at (xy .1)) in
+    let high = ltb-false (y .place) (x .place) (rw (eq-eqb (y .code) (x .code) (sym code)) at (yx .1)) in
+    let place : x .place ≡ y .place = omega arith in
+    λ i. record { code = code i; place = place i }

@@ -1,0 +1,41 @@
+-- The code and place of a refusal by the checks that every writer shares, and by stamping.
+use mathlib.Core.Bool.{Bool, true, false, cond, not}
+use mathlib.Core.List.{List, [], _∷_}
+use mathlib.Core.Path.{_≡_, refl}
+use Prim.Native.Nat.{ℕ}
+use Rattle.reading.specs.declared.Reading.{Reading}
+use Rattle.reading.specs.declared.Fault.the-variants.{OutsideStamps}
+use Rattle.reading.specs.declared.Verdict.{Verdict}
+use Rattle.reading.specs.declared.Verdict.the-variants.{Good, Bad}
+use Rattle.reading.specs.declared.Stamp.the-variants.{At, Refused}
+use Rattle.reading.specs.Faults.{number, first}
+use Rattle.reading.specs.Writing.{andThen, writtenOf}
+use Rattle.reading.specs.Universal.{utcOf}
+use Rattle.reading.specs.Checks.{checkedOf}
+use Rattle.reading.specs.Stamps.{hasStamp, stampNumber, stampAt, unlessBad, stampOf}
+use Rattle.reading.specs.Refusals.{Objection}
+use Rattle.reading.specs.Objections.{readingObjections, stampObjections, stampCodes, StampOwed, WrittenOwed}
+use Rattle.reading.proofs.RefusalLaws.{Through, none, judged, one-then-other, VerdictOwed, verdict-owed}
+
+pub checked-through : (base : ℕ) (r : Reading) → Through (readingObjections base r) (checkedOf base r)
+unfolding readingObjections checkedOf
+checked-through base r = search (judged, none) depth 10
+
+-- what is promised of a verdict is promised of the writer that found it
+pub written-owed : (l : List Objection) (codes : List ℕ) (v : Verdict) (n : ℕ) → VerdictOwed l codes v → WrittenOwed l codes (writtenOf v n)
+written-owed l codes Good n p = p
+written-owed l codes (Bad x) n p = p
+
+stamped-owed : (l : List Objection) (codes : List ℕ) (v : Verdict) (b : Bool) (n : ℕ)
+    → VerdictOwed l codes (andThen v (first (not b) OutsideStamps Good))
+    → StampOwed l codes (unlessBad v (cond b (At n) (Refused (number OutsideStamps))))
+stamped-owed l codes Good true n p = p
+stamped-owed l codes Good false n p = p
+stamped-owed l codes (Bad x) b n p = p
+
+-- "Stamping takes any reading and refuses it by .. alone"
+pub stamp-owed : (base : ℕ) (r : Reading) → StampOwed (stampObjections base r) stampCodes (stampOf base r)
+unfolding stampOf stampAt stampObjections readingObjections
+stamp-owed base r =
+    stamped-owed (stampObjections base r) stampCodes (checkedOf base r) (hasStamp (utcOf r .date .year)) (stampNumber (utcOf r) (r .second))
+    (verdict-owed stampCodes (one-then-other (checked-through base r) (judged (not (hasStamp (utcOf r .date .year))) OutsideStamps 12 0 [] Good refl refl none)) refl refl)
