@@ -1,4 +1,5 @@
-"""Counts the instructions that a program executes: under the toolchain's emulator a trace line for each, else by perf."""
+"""Counts the instructions that a program executes: under the toolchain's emulator a trace line for each, else by valgrind or,
+where that is missing, by perf."""
 import os
 import re
 import shutil
@@ -11,8 +12,15 @@ import kit
 BLOCK = 1 << 20
 
 
-def can_count():
-    return kit.is_emulated() or shutil.which("perf") is not None
+def counter():
+    """The program that counts here, if any does: valgrind rather than perf, which needs a machine that lets it count."""
+    if kit.is_emulated():
+        return str(kit.EMULATOR)
+    return shutil.which("valgrind") or shutil.which("perf")
+
+
+def version():
+    return kit.said_by(counter(), "--version").split("\n")[0]
 
 
 def lines_of(path):
@@ -44,6 +52,12 @@ def counted_by_emulator(program, given):
     return count, answer[0]
 
 
+def counted_by_valgrind(program, given):
+    words = ["valgrind", "--tool=callgrind", "--callgrind-out-file=/dev/null", *kit.LOADER, str(program)]
+    run = subprocess.run(words, stdin=given, stdout=subprocess.PIPE, stderr=subprocess.PIPE, check=True)
+    return int(re.search(rb"Collected : (\d+)", run.stderr).group(1)), run.stdout
+
+
 def counted_by_perf(program, given):
     words = ["perf", "stat", "-x,", "-e", "instructions:u", *kit.LOADER, str(program)]
     run = subprocess.run(words, stdin=given, stdout=subprocess.PIPE, stderr=subprocess.PIPE, check=True)
@@ -59,4 +73,7 @@ def counted(program, given):
     with tempfile.TemporaryFile() as file:
         file.write(given)
         file.seek(0)
-        return counted_by_emulator(program, file) if kit.is_emulated() else counted_by_perf(program, file)
+        if kit.is_emulated():
+            return counted_by_emulator(program, file)
+        count = counted_by_valgrind if counter().endswith("valgrind") else counted_by_perf
+        return count(program, file)
