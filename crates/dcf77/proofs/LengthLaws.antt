@@ -1,5 +1,5 @@
 -- The two lengths: 61 marks exactly by the leap rule, and how many bytes the writer asks for.
-use mathlib.Core.Bool.{Bool, true, false, _&&_}
+use mathlib.Core.Bool.{Bool, true, false, not, _&&_}
 use mathlib.Core.List.{List}
 use mathlib.Core.Path.{_≡_, refl, sym, ap, _∙_}
 use Prim.Native.Nat.{ℕ, _<_, _≤_}
@@ -9,19 +9,23 @@ use lib.Dec.{eqb}
 use lib.ListN.{length}
 use Rattle.reading.specs.declared.Reading.{Reading}
 use Rattle.reading.specs.declared.Fault.{Fault}
-use Rattle.reading.specs.declared.Fault.the-variants.{Length}
+use Rattle.reading.specs.declared.Fault.the-variants.{Length, LeapSecond}
 use Rattle.reading.specs.declared.Verdict.the-variants.{Good, Bad}
+use Rattle.reading.specs.Faults.{number}
 use Rattle.reading.specs.Universal.{utcOf}
 use Rattle.reading.specs.Leap.{afterLeap}
 use Rattle.reading.specs.Checks.{checkedOf}
 use Rattle.reading.proofs.CheckLaws.{checked-is, clash}
 use Rattle.reading.proofs.UtcLaws.{Base, universal}
 use Rattle.reading.proofs.LeapLaws.{after-leap-first}
-use Rattle.dcf77.specs.declared.Answer.the-variants.{Time}
-use Rattle.dcf77.specs.Forms.{shortLength, longLength, lengthOf, dueLong}
+use Rattle.pulses.specs.Row.{row}
+use Rattle.dcf77_table.specs.Table.{minuteMarks}
+use Rattle.dcf77.specs.declared.Answer.the-variants.{Time, No}
+use Rattle.dcf77.specs.Forms.{shortLength, longLength, lengthOf, lastOf, dueLong}
 use Rattle.dcf77.specs.Reader.{readDcf77}
-use Rattle.dcf77.specs.Writer.{carryFault, isGood, needed, roomFault, writeFault}
-use Rattle.dcf77.proofs.WriteLaws.{length-bytes}
+use Rattle.dcf77.specs.Writer.{valuesOf, carryFault, isGood, needed, roomFault, writeFault}
+use Rattle.dcf77.proofs.WriteLaws.{carried, length-bytes}
+use Rattle.dcf77.proofs.WrittenBack.{other-form}
 use Rattle.dcf77.proofs.RoundTrip.{read-bytes}
 
 -- ---- the length of what is read
@@ -52,6 +56,12 @@ module _ (base : ℕ) (s : List ℕ) (r : Reading) (h : ℕ) (e : readDcf77 base
   pub elsewhere-short : afterLeap (utcOf r) ≡ false → length s ≡ shortLength
   unfolding dueLong lengthOf
   elsewhere-short k = length-due ∙ rw (k, and-false (r .leap))
+
+-- "9 .. for a DCF77 length, the last place": the marks of any reading and head that are carried, right one by one but in the other form,
+-- 60 where 61 are due or 61 where 60 are
+pub other-form-refused : (base : ℕ) (r : Reading) (h : ℕ) → carryFault base r h ≡ Good
+    → readDcf77 base (row (minuteMarks (not (dueLong r))) (valuesOf r h)) ≡ No (number (LeapSecond (lastOf (not (dueLong r)))))
+other-form-refused base r h e = other-form base r h (carried base r h e)
 
 -- "leap is announced and the named minute is 00:00 UTC of 1 January or 1 July", which by L3 "becomes 00:00 UTC on the first of any
 -- month"

@@ -11,14 +11,15 @@ use Rattle.laws.proofs.Bools.{neither, holds, same-bool}
 use Rattle.calendar.specs.Calendar.{weekdayOf, isMonth, isDate}
 use Rattle.calendar.proofs.WeekdayLaws.{weekday-range}
 use Rattle.reading.specs.declared.Reading.{Reading}
-use Rattle.reading.specs.declared.Verdict.the-variants.{Good}
+use Rattle.reading.specs.declared.Fault.the-variants.{LeapSecond}
+use Rattle.reading.specs.declared.Verdict.the-variants.{Good, Bad}
 use Rattle.reading.specs.Universal.{dateOf}
 use Rattle.reading.specs.Checks.{hourBad, minuteBad, dayBad, weekdayWrong}
 use Rattle.reading.proofs.CheckLaws.{first-good, date-there, date-parts, weekday-there, weekday-fits}
 use Rattle.pulses.specs.Row.{overNine}
 use Rattle.dcf77_table.specs.Table.{zone, minutes, hours, days, weekday, months, years, tensOfYears}
 use Rattle.dcf77.specs.Zones.{zoneBad}
-use Rattle.dcf77.specs.Forms.{dueLong, minutePlace, minuteParityPlace, hourPlace, hourParityPlace, dayPlace, dateParityPlace}
+use Rattle.dcf77.specs.Forms.{lastOf, dueLong, minutePlace, minuteParityPlace, hourPlace, hourParityPlace, dayPlace, dateParityPlace}
 use Rattle.dcf77.specs.Reader.{isLong, digitFault, odd, parityFault, fieldFault, ruleFault, saidFault}
 use Rattle.dcf77.proofs.WriteLaws.{both-good}
 
@@ -132,6 +133,10 @@ module _ (r : Reading) (w z : ℕ) (long : Bool) where
 
 -- ---- all of them
 
+beq-other : (b : Bool) → Bool·beq (not b) b ≡ false
+beq-other true = refl
+beq-other false = refl
+
 pub record Sound (s v : List ℕ) (r : Reading) : Type 0 where
   pub digits : Digits v
   pub evens : Evens s
@@ -158,4 +163,19 @@ module _ (s v : List ℕ) (r : Reading) where
         good-evens s (p .evens),
         good-fields r (getD v weekday 0) (getD v zone 0) (isLong (length s)) (p .fields),
         good-rules r (getD v weekday 0) (getD v zone 0) (isLong (length s)) (p .fields),
+      )
+
+  -- "DCF77 length against the leap rule": where nothing else is wrong, 9 at the last place
+  pub length-against : Digits v → Evens s → Fields r (getD v weekday 0) (getD v zone 0) (dueLong r) → isLong (length s) ≡ not (dueLong r)
+      → saidFault s v r ≡ Bad (LeapSecond (lastOf (not (dueLong r))))
+  unfolding saidFault ruleFault
+  length-against d e f other =
+      rw (
+        good-digits v d,
+        good-evens s e,
+        good-fields r (getD v weekday 0) (getD v zone 0) (dueLong r) f,
+        weekday-fits r (getD v weekday 0) (f .week),
+        f .zone-good,
+        other,
+        beq-other (dueLong r),
       )
