@@ -1,10 +1,9 @@
 -- The values that a reading which passes the checks lays in a frame's groups: they fit, they say that reading, and no fault
 -- is found in them.
 use mathlib.Core.Path.{_≡_, refl, ap, subst, _∙_}
-use mathlib.Core.Bool.{Bool, true, false}
+use mathlib.Core.Bool.{false}
 use Prim.Native.Nat.{ℕ, _+_, _-_, _*_, _/_, _%_, _^_, _<_, _≤_}
 use native.Mathlib.Omega.{arith}
-use lib.Dec.{eqb}
 use lib.ListN.{getD}
 use Rattle.calendar.specs.Calendar.{leapYear, dayOfYear}
 use Rattle.calendar.proofs.MonthLaws.{year-least}

@@ -1,7 +1,7 @@
 -- The code and place of a refusal by the checks that every writer shares, and by stamping.
 use mathlib.Core.Bool.{Bool, true, false, cond, not}
-use mathlib.Core.List.{List, [], _∷_}
-use mathlib.Core.Path.{_≡_, refl}
+use mathlib.Core.List.{List, []}
+use mathlib.Core.Path.{refl}
 use Prim.Native.Nat.{ℕ}
 use Rattle.reading.specs.declared.Reading.{Reading}
 use Rattle.reading.specs.declared.Fault.the-variants.{OutsideStamps}

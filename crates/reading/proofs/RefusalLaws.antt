@@ -1,11 +1,11 @@
 -- A cascade of checks gives the refusal that is due: it goes through objections that stand in order, and stops at the first that holds.
-use mathlib.Core.Bool.{Bool, true, false, not, _&&_, _||_}
+use mathlib.Core.Bool.{Bool, true, false, not, _&&_}
 use mathlib.Core.List.{List, [], _∷_, _++_}
 use mathlib.Core.Logic.{⊎-elim}
 use mathlib.Core.Path.{_≡_, refl, sym, subst, ap, _∙_}
 use Prim.Native.Nat.{ℕ}
 use native.Mathlib.Omega.{arith}
-use lib.Dec.{eqb, ltb}
+use lib.Dec.{eqb}
 use borrow.Author.Tests.{eq-eqb, eqb-true, le-ltb, not-true}
 use Rattle.laws.proofs.Bools.{both, either, never}
 use Rattle.reading.specs.declared.Refusal.{Refusal}

@@ -22,7 +22,7 @@ use Rattle.reading.specs.declared.Fault.the-variants.{
   UnknownKind,
 }
 use Rattle.reading.specs.declared.Verdict.{Verdict}
-use Rattle.reading.specs.declared.Verdict.the-variants.{Good, Bad}
+use Rattle.reading.specs.declared.Verdict.the-variants.{Bad}
 
 -- the table of refusal numbers; by L5 what was 5 is "15 for a time field, 16 for a date field, a weekday out of range or a day that
 -- month lacks, 17 for quality or head"

@@ -11,7 +11,6 @@ use calendar::months::is_date;
 use calendar::months::is_day;
 use calendar::months::is_leap;
 ghost use mathlib.Core.Path.{_≡_};
-ghost use mathlib.Core.Bool.{not};
 ghost use Rattle.reading.specs.Years.{base};
 ghost use Rattle.reading.specs.Universal.{utcOf};
 ghost use Rattle.reading.specs.Leap.{sixtyBad};

@@ -1,12 +1,11 @@
 -- What a string without a fault says: each check's fact, and back.
-use mathlib.Core.Bool.{Bool, true, false, not, _&&_, _||_}
-use mathlib.Core.Path.{_≡_, refl}
-use Prim.Native.Nat.{ℕ, _≤_, _<_}
+use mathlib.Core.Bool.{Bool, true, false, _||_}
+use mathlib.Core.Path.{_≡_}
+use Prim.Native.Nat.{ℕ, _≤_}
 use native.Mathlib.Omega.{arith}
-use lib.Dec.{ltb}
 use borrow.Author.Tests.{ltb-false, le-ltb}
 use Rattle.laws.proofs.Bools.{neither}
-use Rattle.calendar.specs.Calendar.{weekdayOf, isMonth, isDate}
+use Rattle.calendar.specs.Calendar.{weekdayOf, isDate}
 use Rattle.calendar.proofs.WeekdayLaws.{weekday-range}
 use Rattle.reading.specs.declared.Reading.{Reading}
 use Rattle.reading.specs.declared.Verdict.the-variants.{Good}

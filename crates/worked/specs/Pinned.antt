@@ -41,7 +41,6 @@ use Rattle.worked.specs.Given.{
   erlangenAt,
   erlangen6,
   hourAhead,
-  noFlags,
   sevens,
 }
 use Rattle.worked.specs.Cases.{string2}
