@@ -19,12 +19,12 @@ from pulse_readers import FrameReader, MinuteReader
 from reading import Refusal, stamp
 
 Table = Dict[int, Set[int]]
-ANYWHERE = set(range(100))
-MEINBERG: Table = {1: {0}, 2: ANYWHERE, 15: {18, 21, 24}, 16: {3, 6, 14}, 6: {14}, 9: {24}}
-ERLANGEN: Table = {1: {0}, 2: ANYWHERE, 15: {14, 17, 20}, 16: {1, 4, 11}, 6: {11}, 8: {24}, 9: {20}}
-FRAME: Table = {2: ANYWHERE, 3: {1, 10, 20, 30, 50}, 4: {75}, 15: {1, 10, 20}, 16: {30}, 7: {80},
-                8: {64}, 9: {1}, 10: {61}}
-MINUTE: Table = {2: ANYWHERE, 3: {21, 29, 36, 45, 50}, 4: {28, 35, 58}, 15: {21, 29},
+MEINBERG: Table = {1: {0}, 2: set(range(32)), 15: {18, 21, 24}, 16: {3, 6, 14}, 6: {14}, 9: {24}}
+ERLANGEN: Table = {1: {0}, 2: set(range(68)), 15: {14, 17, 20}, 16: {1, 4, 11}, 6: {11}, 8: {24},
+                   9: {20}}
+FRAME: Table = {2: set(range(100)), 3: {1, 10, 20, 30, 50}, 4: {75}, 15: {1, 10, 20}, 16: {30},
+                7: {80}, 8: {64}, 9: {1}, 10: {61}}
+MINUTE: Table = {2: set(range(61)), 3: {21, 29, 36, 45, 50}, 4: {28, 35, 58}, 15: {21, 29},
                  16: {36, 42, 45}, 6: {42}, 8: {17}, 9: {59, 60}}
 
 
@@ -39,11 +39,11 @@ def joined(*tables: Table) -> Table:
 
 
 # op -> code -> every place; each must occur in the named streams, and no other may. Where a byte is
-# wrong (2), any place may be the lowest.
+# wrong (2), any place of the input, or of the position part, may be the lowest.
 PLACES: Dict[int, Table] = {
     1: MEINBERG, 2: ERLANGEN, 3: joined(FRAME, placeless(1)), 4: joined(MINUTE, placeless(1)),
     5: placeless(1, 15, 16, 17, 8, 9, 11),
-    6: joined(placeless(1, 15, 16, 17, 8, 9, 11), {2: ANYWHERE}),
+    6: joined(placeless(1, 15, 16, 17, 8, 9, 11), {2: set(range(26))}),
     7: placeless(1, 15, 16, 17, 8, 9), 8: placeless(1, 15, 16, 17, 8, 9, 11),
     9: placeless(15, 16, 17, 8, 9, 12), 10: joined(MEINBERG, ERLANGEN), 11: FRAME, 12: MINUTE,
     13: {code: places for code, places in joined(

@@ -6,6 +6,7 @@ use mathlib.Core.List.{List, [], _∷_}
 use mathlib.Core.Logic.{_⊎_, inl, inr}
 use Prim.Native.Nat.{ℕ, suc}
 use lib.Dec.{eqb}
+use Rattle.laws.specs.Tests.{among}
 use Rattle.laws.proofs.Bools.{never}
 use Rattle.reading.specs.declared.Reading.{Reading}
 use Rattle.reading.specs.declared.Refusal.{Refusal}
@@ -13,7 +14,7 @@ use Rattle.reading.specs.declared.Fault.the-variants.{OutsideStamps, CutShort, 
 use Rattle.reading.specs.Faults.{number}
 use Rattle.reading.specs.Universal.{utcOf}
 use Rattle.reading.specs.Stamps.{stampNumber}
-use Rattle.reading.specs.Refusals.{Objection, among}
+use Rattle.reading.specs.Refusals.{Objection}
 use Rattle.reading.proofs.CheckLaws.{clash}
 use Rattle.strings.specs.declared.Answer.{Answer as StringAnswer}
 use Rattle.strings.specs.declared.Answer.the-variants.{Time as StringTime, No as StringNo}
@@ -53,18 +54,18 @@ abbrev pub NotOwn : Refusal → Type 0
 NotOwn x = (x ≡ number CutShort → ⊥) × (x ≡ number UnknownKind → ⊥)
 
 -- one by codes that 13 and 14 are not among
-not-own : (codes : List ℕ) → among codes 13 ≡ false → among codes 14 ≡ false → (x : Refusal) → among codes (x .code) ≡ true → NotOwn x
+not-own : (codes : List ℕ) → among 13 codes ≡ false → among 14 codes ≡ false → (x : Refusal) → among (x .code) codes ≡ true → NotOwn x
 unfolding number
 not-own codes a b x m = (
-  (λ e. never (sym a ∙ ap (λ (z : Refusal). among codes (z .code)) (sym e) ∙ m)),
-  λ e. never (sym b ∙ ap (λ (z : Refusal). among codes (z .code)) (sym e) ∙ m),
+  (λ e. never (sym a ∙ ap (λ (z : Refusal). among (z .code) codes) (sym e) ∙ m)),
+  λ e. never (sym b ∙ ap (λ (z : Refusal). among (z .code) codes) (sym e) ∙ m),
 )
 
 by-12 : (x : Refusal) → x ≡ number OutsideStamps → NotOwn x
 unfolding number
-by-12 x e = not-own (12 ∷ []) refl refl x (ap (λ (z : Refusal). among (12 ∷ []) (z .code)) e)
+by-12 x e = not-own (12 ∷ []) refl refl x (ap (λ (z : Refusal). among (z .code) (12 ∷ [])) e)
 
-string-refused : (l : List Objection) (codes : List ℕ) → among codes 13 ≡ false → among codes 14 ≡ false
+string-refused : (l : List Objection) (codes : List ℕ) → among 13 codes ≡ false → among 14 codes ≡ false
     → (a : StringAnswer) → StringOwed l codes a → (x : Refusal) → ofString a ≡ No x → NotOwn x
 string-refused l codes c d (StringTime r coasting) p x e = let z : _≡_ {A = ℕ} 0 1 = cc in clash z
 string-refused l codes c d (StringNo y) p x e = not-own codes c d x (let same : y ≡ x = cc in rw (sym same) (p .1))

@@ -13,11 +13,11 @@ use Rattle.reading.specs.Offset.{west, east, offsetGood, localOf}
 use Rattle.reading.specs.Years.{base, inHundred, yearOf}
 use Rattle.reading.specs.Universal.{utcMinutes, onDay, utcOf}
 use Rattle.reading.specs.Leap.{closesWithLeap, leapMinute, sixtyBad, afterLeap}
-use Rattle.reading.specs.Checks.{timeBad, dateBad, checkedOf, dayBad, weekdayWrong}
+use Rattle.reading.specs.Checks.{timeBad, dateBad, checkedOf, dayBad, monthBad, weekdayWrong}
 use Rattle.reading.specs.Stamps.{hasStamp, stampNumber, stampAt, stampOf}
 use Rattle.wire.specs.Digits.{digit, pair}
 use Rattle.wire.specs.Layout.{packed, exactly, from, either, oneOf, within, beside, allowed, goodPlaces}
-use Rattle.strings.specs.Checks.{monthBad, weekdayBad, faultOf}
+use Rattle.strings.specs.Checks.{weekdayBad, faultOf}
 use Rattle.meinberg.specs.Layout.{layout as meinbergLayout}
 use Rattle.meinberg.specs.Zones.{offsetOf as zoneOffset, summerOf}
 use Rattle.meinberg.specs.Meaning.{qualityOf, coastingIn, meaning, faultIn as meinbergFault, readMeinberg}

@@ -4,12 +4,15 @@ use mathlib.Core.List.{List, _∷_}
 use mathlib.Core.Path.{_≡_, refl}
 use Prim.Native.Nat.{ℕ}
 use lib.Dec.{ltb}
+use Rattle.laws.specs.Tests.{among}
+use Rattle.reading.specs.declared.Refusal.{Refusal}
 use Rattle.reading.specs.declared.Fault.the-variants.{Length}
 use Rattle.reading.specs.declared.Written.the-variants.{No as Refused}
 use Rattle.reading.specs.Faults.{number}
-use Rattle.reading.specs.Refusals.{Objection, objection, among}
+use Rattle.reading.specs.Refusals.{order, Objection, objection, Owed}
 use Rattle.reading.specs.Objections.{WrittenOwed}
 use Rattle.reading.proofs.RefusalLaws.{quiet-later, owed-later, length-owed}
+use Rattle.reading.proofs.OneDue.{allIn, owed-one}
 use Rattle.strings.specs.declared.Answer.{Answer}
 use Rattle.strings.specs.declared.Answer.the-variants.{Time, No}
 use Rattle.strings.specs.Checks.{AnswerOwed}
@@ -26,11 +29,11 @@ unfolding stringObjections readString
 string-owed base Meinberg s = meinberg-owed base s
 string-owed base Erlangen s = erlangen-owed base s
 
-room-coded : (kind : Kind) → among (bridgeCodes kind) 1 ≡ true
+room-coded : (kind : Kind) → among 1 (bridgeCodes kind) ≡ true
 room-coded Meinberg = refl
 room-coded Erlangen = refl
 
-with-room : (l : List Objection) (codes : List ℕ) (short : Bool) (a : Answer) → among codes 1 ≡ true → AnswerOwed l codes a
+with-room : (l : List Objection) (codes : List ℕ) (short : Bool) (a : Answer) → among 1 codes ≡ true → AnswerOwed l codes a
     → WrittenOwed (objection short 1 0 ∷ l) codes (cond short (Refused (number Length)) (answerFor a))
 with-room l codes true a m p = length-owed l codes m
 with-room l codes false (Time r coasting) m p = quiet-later (objection false 1 0) l refl p
@@ -41,3 +44,12 @@ pub bridge-owed : (base : ℕ) (kind : Kind) (s : List ℕ) (room : ℕ)
 unfolding bridgeObjections bridgeAnswer
 bridge-owed base kind s room =
     with-room (stringObjections base kind s) (bridgeCodes kind) (ltb room frameLength) (readString base kind s) (room-coded kind) (string-owed base kind s)
+
+-- which fixes the refusal
+pub bridge-one : (base : ℕ) (kind : Kind) (s : List ℕ) (room : ℕ) (x y : Refusal)
+    → Owed (bridgeObjections base kind s room) (bridgeCodes kind) x → Owed (bridgeObjections base kind s room) (bridgeCodes kind) y → x ≡ y
+bridge-one base kind s room x y = owed-one (bridgeObjections base kind s room) (bridgeCodes kind) x y (in-order kind)
+  where
+    in-order : (kind : Kind) → allIn order (bridgeCodes kind) ≡ true
+    in-order Meinberg = refl
+    in-order Erlangen = refl

@@ -44,7 +44,7 @@ weekdayOf t = (dayNumber t + 4) % 7 + 1
 unfoldable pub isMonth : ℕ → Bool
 isMonth m = leb 1 m && leb m 12
 
--- the last day that month m may have; under what is no month, any day up to 31 may stand
+-- the last day that month m may have; L5: "Under a bad month a day is bad only outside 1..31."
 unfoldable pub lastDay : Bool → ℕ → ℕ
 lastDay l m = cond (isMonth m) (daysIn l m) 31
 

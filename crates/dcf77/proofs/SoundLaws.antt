@@ -8,13 +8,13 @@ use lib.Dec.{eqb}
 use lib.ListN.{length, getD}
 use borrow.Author.Tests.{not-false, ltb-false, le-ltb, ne-eqb}
 use Rattle.laws.proofs.Bools.{neither, holds, same-bool}
-use Rattle.calendar.specs.Calendar.{weekdayOf, isMonth, isDate}
+use Rattle.calendar.specs.Calendar.{weekdayOf, isDate}
 use Rattle.calendar.proofs.WeekdayLaws.{weekday-range}
 use Rattle.reading.specs.declared.Reading.{Reading}
 use Rattle.reading.specs.declared.Fault.the-variants.{LeapSecond}
 use Rattle.reading.specs.declared.Verdict.the-variants.{Good, Bad}
 use Rattle.reading.specs.Universal.{dateOf}
-use Rattle.reading.specs.Checks.{hourBad, minuteBad, dayBad, weekdayWrong}
+use Rattle.reading.specs.Checks.{hourBad, minuteBad, dayBad, monthBad, weekdayWrong}
 use Rattle.reading.proofs.CheckLaws.{first-good, date-there, date-parts, weekday-there, weekday-fits}
 use Rattle.pulses.specs.Row.{overNine}
 use Rattle.dcf77_table.specs.Table.{zone, minutes, hours, days, weekday, months, years, tensOfYears}
@@ -103,7 +103,7 @@ module _ (r : Reading) (w z : ℕ) (long : Bool) where
       let b = first-good (hourBad (r .hour)) _ _ (a .1) in
       let c = first-good (dayBad r) _ _ (b .1) in
       let d = first-good (eqb w 0) _ _ (c .1) in
-      let f = first-good (not (isMonth (r .month))) _ _ (d .1) in
+      let f = first-good (monthBad r) _ _ (d .1) in
       let g = first-good (weekdayWrong r w) _ _ q in
       let h = first-good (zoneBad z) _ _ (g .1) in
       let i = first-good (not (Bool·beq long (dueLong r))) _ _ (h .1) in

@@ -1,10 +1,11 @@
 -- Case 8 of the paper, the long minute before the leap second of 2016, and its neighbour an hour later, computed from the definitions.
-use mathlib.Core.Bool.{Bool, true, false, cond, _||_}
+use mathlib.Core.Bool.{Bool, true, false, cond}
 use mathlib.Core.List.{List, [], _∷_}
 use mathlib.Core.Path.{_≡_, refl, subst}
 use Prim.Native.Nat.{ℕ}
 use lib.Dec.{eqb}
 use lib.IntN.{pos}
+use Rattle.laws.specs.Tests.{among}
 use Rattle.calendar.specs.Calendar.{leapYear, daysIn, daysBefore, yearLength, daysBeforeYear, dayOfYear, dayNumber, weekdayOf, isMonth, lastDay, isDay, isDate, dayBefore}
 use Rattle.reading.specs.declared.Reading.{Reading}
 use Rattle.reading.specs.declared.Verdict.the-variants.{Good}
@@ -21,10 +22,6 @@ use Rattle.dcf77.specs.Forms.{dueLong}
 use Rattle.dcf77.specs.Reader.{readDcf77}
 use Rattle.dcf77.specs.Writer.{plainOf, evened, withParity, valuesOf, bytesOf, headBad, checkedWith, notCarried, carryFault}
 use Rattle.dcf77.proofs.RoundTrip.{bytes-read}
-
-pub among : ℕ → List ℕ → Bool
-among i [] = false
-among i (p ∷ l) = eqb i p || among i l
 
 -- a row of so many marks, with ones at the places given and a 2 at its last place
 pub marksWith : ℕ → ℕ → List ℕ → List ℕ
@@ -57,7 +54,7 @@ pub ones-8 : List ℕ
 ones-8 = 18 ∷ 20 ∷ 23 ∷ 25 ∷ 26 ∷ 28 ∷ 30 ∷ 33 ∷ 36 ∷ 39 ∷ 41 ∷ 44 ∷ 46 ∷ 52 ∷ 55 ∷ 58 ∷ []
 
 pub case-8-marks : bytesOf case-8 0 ≡ marksWith 60 59 ones-8
-unfolding case-8 ones-8 winter marksWith among upTo bytesOf valuesOf withParity plainOf evened onesOf liesWithin onesFrom row pulseFor pulseOf digitOf groupOf weightOf minuteMarks sharedMarks lastMarks dueLong zoneOf weekdayOf dayNumber dayOfYear daysBeforeYear daysBefore daysIn yearLength leapYear
+unfolding case-8 ones-8 winter marksWith upTo bytesOf valuesOf withParity plainOf evened onesOf liesWithin onesFrom row pulseFor pulseOf digitOf groupOf weightOf minuteMarks sharedMarks lastMarks dueLong zoneOf weekdayOf dayNumber dayOfYear daysBeforeYear daysBefore daysIn yearLength leapYear
 case-8-marks = refl
 
 carried-8 : carryFault base case-8 0 ≡ Good
@@ -76,7 +73,7 @@ pub new-year-ones : List ℕ
 new-year-ones = 18 ∷ 19 ∷ 20 ∷ 29 ∷ 35 ∷ 36 ∷ 42 ∷ 43 ∷ 44 ∷ 45 ∷ 50 ∷ 51 ∷ 52 ∷ 54 ∷ 58 ∷ []
 
 pub new-year-marks : bytesOf new-year 0 ≡ marksWith 61 60 new-year-ones
-unfolding new-year new-year-ones winter marksWith among upTo bytesOf valuesOf withParity plainOf evened onesOf liesWithin onesFrom row pulseFor pulseOf digitOf groupOf weightOf minuteMarks sharedMarks lastMarks dueLong afterLeap closesWithLeap dayBefore utcOf utcMinutes onDay west east zoneOf weekdayOf dayNumber dayOfYear daysBeforeYear daysBefore daysIn yearLength leapYear
+unfolding new-year new-year-ones winter marksWith upTo bytesOf valuesOf withParity plainOf evened onesOf liesWithin onesFrom row pulseFor pulseOf digitOf groupOf weightOf minuteMarks sharedMarks lastMarks dueLong afterLeap closesWithLeap dayBefore utcOf utcMinutes onDay west east zoneOf weekdayOf dayNumber dayOfYear daysBeforeYear daysBefore daysIn yearLength leapYear
 new-year-marks = refl
 
 carried-new-year : carryFault base new-year 0 ≡ Good

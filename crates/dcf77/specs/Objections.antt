@@ -1,17 +1,19 @@
 -- What can be wrong with a DCF77 minute, and with what is to be written as one, with code and place.
+-- Conditions and codes are those of 01's table, as amended by L5, a place is that of "the first byte of the lowest offending field".
+-- (Of an input of another length, code 2 may hold too: code 1 goes before it.)
 use mathlib.Core.Bool.{true, not, Bool·beq, _||_}
-use mathlib.Core.List.{List, [], _∷_}
+use mathlib.Core.List.{List, [], _∷_, _++_}
 use mathlib.Core.Path.{_≡_}
 use Prim.Native.Nat.{ℕ}
 use lib.Dec.{eqb, ltb}
 use lib.ListN.{length, getD}
-use Rattle.calendar.specs.Calendar.{isMonth}
 use Rattle.reading.specs.declared.Reading.{Reading}
 use Rattle.reading.specs.Offset.{offsetGood}
 use Rattle.reading.specs.Universal.{utcOf}
 use Rattle.reading.specs.Leap.{sixtyBad}
-use Rattle.reading.specs.Checks.{hourBad, minuteBad, timeBad, dateBad, qualityBad, dayBad, weekdayWrong}
+use Rattle.reading.specs.Checks.{hourBad, minuteBad, timeBad, dateBad, qualityBad, dayBad, monthBad, weekdayWrong}
 use Rattle.reading.specs.Refusals.{Objection, objection, quiet, Owed}
+use Rattle.reading.specs.Objections.{checkObjections}
 use Rattle.pulses.specs.Row.{goodPulses, overNine}
 use Rattle.dcf77_table.specs.Table.{minutes, hours, days, months, years, tensOfYears, weekday, zone}
 use Rattle.dcf77.specs.declared.Answer.{Answer}
@@ -38,7 +40,7 @@ saidObjections s v r =
     ∷ objection (hourBad (r .hour)) 15 29
     ∷ objection (dayBad r) 16 36
     ∷ objection (eqb (getD v weekday 0) 0) 16 42
-    ∷ objection (not (isMonth (r .month))) 16 45
+    ∷ objection (monthBad r) 16 45
     ∷ objection (weekdayWrong r (getD v weekday 0)) 6 42
     ∷ objection (zoneBad (getD v zone 0)) 8 17
     ∷ objection (not (Bool·beq (isLong (length s)) (dueLong r))) 9 (lastOf (isLong (length s)))
@@ -52,13 +54,8 @@ readObjections base s = saidObjections s (says s) (readingOf base (says s))
 unfoldable pub writeObjections : ℕ → Reading → ℕ → ℕ → List Objection
 writeObjections base r h room =
     objection (ltb room (needed (carryFault base r h) (dueLong r))) 1 0
-    ∷ objection (timeBad r) 15 0
-    ∷ objection (dateBad base r) 16 0
-    ∷ objection (qualityBad (r .quality) || headBad h) 17 0
-    ∷ objection (not (offsetGood (r .offset .0))) 8 0
-    ∷ objection (sixtyBad (utcOf r) (r .second)) 9 0
-    ∷ objection (notCarried r) 11 0
-    ∷ []
+    ∷ checkObjections (timeBad r) (dateBad base r) (qualityBad (r .quality) || headBad h) (not (offsetGood (r .offset .0))) (sixtyBad (utcOf r) (r .second))
+    ++ (objection (notCarried r) 11 0 ∷ [])
 
 -- the codes that reader and writer can answer with
 abbrev pub readCodes : List ℕ

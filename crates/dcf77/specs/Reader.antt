@@ -4,14 +4,13 @@ use mathlib.Core.List.{List}
 use Prim.Native.Nat.{ℕ, _+_, _-_, _*_, _%_}
 use lib.Dec.{eqb, ltb}
 use lib.ListN.{length, getD}
-use Rattle.calendar.specs.Calendar.{isMonth}
 use Rattle.reading.specs.declared.Reading.{Reading}
 use Rattle.reading.specs.declared.Verdict.{Verdict}
 use Rattle.reading.specs.declared.Verdict.the-variants.{Good, Bad}
 use Rattle.reading.specs.declared.Fault.the-variants.{Length, Byte, Digit, Parity, Time, Date, Weekday, Offset, LeapSecond}
 use Rattle.reading.specs.Faults.{number, first}
 use Rattle.reading.specs.Years.{yearOf}
-use Rattle.reading.specs.Checks.{hourBad, minuteBad, dayBad, weekdayWrong}
+use Rattle.reading.specs.Checks.{hourBad, minuteBad, dayBad, monthBad, weekdayWrong}
 use Rattle.reading.specs.Writing.{andThen}
 use Rattle.pulses.specs.Row.{goodPulses, sumsOf, onesOf, overNine}
 use Rattle.dcf77_table.specs.Table.{
@@ -124,7 +123,7 @@ fieldFault r w =
     (first (hourBad (r .hour)) (Time hourPlace)
     (first (dayBad r) (Date dayPlace)
     (first (eqb w 0) (Date weekdayPlace)
-    (first (not (isMonth (r .month))) (Date monthPlace) Good))))
+    (first (monthBad r) (Date monthPlace) Good))))
 
 -- codes 6, 8 and 9; z is the zone that the marks name, long their form: "DCF77 length against the leap rule"
 unfoldable pub ruleFault : Reading → ℕ → ℕ → Bool → Verdict

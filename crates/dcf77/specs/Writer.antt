@@ -14,7 +14,7 @@ use Rattle.reading.specs.Faults.{first}
 use Rattle.reading.specs.Offset.{offsetGood}
 use Rattle.reading.specs.Universal.{dateOf, utcOf}
 use Rattle.reading.specs.Leap.{sixtyBad}
-use Rattle.reading.specs.Checks.{timeBad, dateBad, qualityBad, lowestOf}
+use Rattle.reading.specs.Checks.{timeBad, dateBad, qualityBad, firstFault}
 use Rattle.reading.specs.Writing.{andThen}
 use Rattle.pulses.specs.Row.{row, onesOf, bit}
 use Rattle.dcf77_table.specs.Table.{minuteParity, hourParity, dateParity, minuteMarks}
@@ -63,7 +63,7 @@ headBad h = ltb 32767 h
 -- the shared checks, with the head's beside the quality's
 unfoldable pub checkedWith : ℕ → Reading → ℕ → Verdict
 checkedWith base r h =
-    lowestOf (timeBad r) (dateBad base r) (qualityBad (r .quality) || headBad h) (not (offsetGood (r .offset .0))) (sixtyBad (utcOf r) (r .second))
+    firstFault (timeBad r) (dateBad base r) (qualityBad (r .quality) || headBad h) (not (offsetGood (r .offset .0))) (sixtyBad (utcOf r) (r .second))
 
 -- "second or quality not 0, or another zone than its two"
 unfoldable pub notCarried : Reading → Bool

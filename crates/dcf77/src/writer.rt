@@ -14,8 +14,8 @@ use reading::Reading;
 use reading::Verdict;
 use reading::Written;
 use reading::checks::date_bad;
+use reading::checks::first_fault;
 use reading::checks::leap_second_bad;
-use reading::checks::lowest;
 use reading::checks::quality_bad;
 use reading::checks::time_bad;
 use reading::faults::refusal_of;
@@ -102,7 +102,7 @@ fn checked_with(r: Reading, head: u16) -> Verdict
     ensures { λ v. ⌜ v ≡ checkedWith base r head ⌝ }
 {
     let offset = r.offset;
-    lowest(
+    first_fault(
         time_bad(r),
         date_bad(r),
         quality_bad(r.quality) | (LAST_HEAD < head),

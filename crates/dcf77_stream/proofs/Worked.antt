@@ -9,7 +9,7 @@ use lib.ListN.{set, replicate}
 use Rattle.calendar.specs.Calendar.{leapYear, daysIn, daysBefore, yearLength, daysBeforeYear, dayOfYear, dayNumber, weekdayOf, isMonth, lastDay, isDay}
 use Rattle.reading.specs.declared.Reading.{Reading}
 use Rattle.reading.specs.Faults.{number}
-use Rattle.reading.specs.Checks.{dayBad, weekdayWrong}
+use Rattle.reading.specs.Checks.{dayBad, monthBad, weekdayWrong}
 use Rattle.reading.specs.Years.{base, yearOf}
 use Rattle.pulses.specs.Row.{groupOf, weightOf, pulseAllowed, goodPulses, shareOf, sumOf, sumsOf, upTo, onesFrom, liesWithin, onesOf}
 use Rattle.dcf77_table.specs.Table.{sharedMarks, lastMarks, minuteMarks}
@@ -64,7 +64,7 @@ unfolding owedTo owed outlined lastOf betweenGaps marksThenGap
 outlines-cleared = refl
 
 reads : readDcf77 base marks8 ≡ Told case8 0
-unfolding readDcf77 readFault saidFault ruleFault weekdayWrong fieldFault dayBad parityFault odd digitFault lengthBad readingOf says tableFor isLong dueLong zoneBad zoneOf offsetIn minuteMarks sharedMarks lastMarks goodPulses pulseAllowed sumsOf sumOf shareOf upTo groupOf weightOf onesOf liesWithin onesFrom yearOf leapYear daysIn daysBefore yearLength daysBeforeYear dayOfYear dayNumber weekdayOf isMonth lastDay isDay
+unfolding readDcf77 readFault saidFault ruleFault weekdayWrong fieldFault dayBad monthBad parityFault odd digitFault lengthBad readingOf says tableFor isLong dueLong zoneBad zoneOf offsetIn minuteMarks sharedMarks lastMarks goodPulses pulseAllowed sumsOf sumOf shareOf upTo groupOf weightOf onesOf liesWithin onesFrom yearOf leapYear daysIn daysBefore yearLength daysBeforeYear dayOfYear dayNumber weekdayOf isMonth lastDay isDay
 reads = refl
 
 refuses : readDcf77 base (set marks8 58 0) ≡ Not (record { code = 4; place = 58 })

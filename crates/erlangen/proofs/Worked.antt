@@ -16,10 +16,10 @@ use Rattle.reading.specs.Years.{base, inHundred, yearOf}
 use Rattle.reading.specs.Offset.{west, east, offsetGood}
 use Rattle.reading.specs.Universal.{utcMinutes, onDay, utcOf}
 use Rattle.reading.specs.Leap.{closesWithLeap, leapMinute, sixtyBad}
-use Rattle.reading.specs.Checks.{timeBad, dateBad, checkedOf, dayBad, weekdayWrong}
+use Rattle.reading.specs.Checks.{timeBad, dateBad, checkedOf, dayBad, monthBad, weekdayWrong}
 use Rattle.strings.specs.declared.Answer.{Answer}
 use Rattle.strings.specs.declared.Answer.the-variants.{Time, No}
-use Rattle.strings.specs.Checks.{monthBad, weekdayBad, faultOf}
+use Rattle.strings.specs.Checks.{weekdayBad, faultOf}
 use Rattle.erlangen.specs.Layout.{size, layout}
 use Rattle.erlangen.specs.Offset.{wholeUnits, unitsOf, tooFar, offsetBad, signed, offsetOf, isBehind, minutesOf}
 use Rattle.erlangen.specs.Meaning.{shows, weekdaySaid, coastingSaid, offsetWrong, markWrong, readingOf, faultIn, readErlangen}

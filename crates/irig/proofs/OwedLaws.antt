@@ -1,16 +1,18 @@
 -- The code and place of each refusal: the first of the order of the codes whose condition holds, and its lowest place.
 use mathlib.Core.List.{List}
-use mathlib.Core.Path.{refl}
+use mathlib.Core.Path.{_≡_, refl}
 use Prim.Native.Nat.{ℕ}
 use lib.Dec.{ltb}
 use Rattle.reading.specs.declared.Reading.{Reading}
+use Rattle.reading.specs.declared.Refusal.{Refusal}
 use Rattle.reading.specs.declared.Fault.the-variants.{Length}
 use Rattle.reading.specs.declared.Verdict.{Verdict}
 use Rattle.reading.specs.declared.Verdict.the-variants.{Good, Bad}
 use Rattle.reading.specs.Writing.{writtenOf}
-use Rattle.reading.specs.Refusals.{Objection}
-use Rattle.reading.specs.Objections.{readingObjections, WrittenOwed}
-use Rattle.reading.proofs.RefusalLaws.{Through, none, judged, VerdictOwed, verdict-owed}
+use Rattle.reading.specs.Refusals.{Objection, Owed}
+use Rattle.reading.specs.Objections.{checkObjections, readingObjections, WrittenOwed}
+use Rattle.reading.proofs.RefusalLaws.{Through, none, judged, VerdictOwed, always-at-0, verdict-owed}
+use Rattle.reading.proofs.OneDue.{owed-one}
 use Rattle.reading.proofs.OwedLaws.{checked-through, written-owed}
 use Rattle.pulses.specs.Row.{sumsOf}
 use Rattle.irig_table.specs.Table.{framePulses}
@@ -35,7 +37,20 @@ read-owed base s =
 
 pub write-owed : (base : ℕ) (r : Reading) (room : ℕ)
     → WrittenOwed (writeObjections base r room) writeCodes (writtenOf (writeFault base r room) frameLength)
-unfolding writeObjections readingObjections writeFault
+unfolding writeObjections readingObjections checkObjections writeFault
 write-owed base r room =
     written-owed (writeObjections base r room) writeCodes (writeFault base r room) frameLength
     (verdict-owed writeCodes (judged (ltb room frameLength) Length 1 0 _ _ refl refl (checked-through base r)) refl refl)
+
+-- ---- which fixes the refusal, and a writer's is at place 0
+
+pub read-one : (base : ℕ) (s : List ℕ) (x y : Refusal) → Owed (readObjections base s) readCodes x → Owed (readObjections base s) readCodes y → x ≡ y
+read-one base s x y = owed-one (readObjections base s) readCodes x y refl
+
+module _ (base : ℕ) (r : Reading) (room : ℕ) (x : Refusal) where
+  pub write-one : (y : Refusal) → Owed (writeObjections base r room) writeCodes x → Owed (writeObjections base r room) writeCodes y → x ≡ y
+  write-one y = owed-one (writeObjections base r room) writeCodes x y refl
+
+  pub write-at-0 : Owed (writeObjections base r room) writeCodes x → x .place ≡ 0
+  unfolding writeObjections readingObjections checkObjections
+  write-at-0 = always-at-0 (writeObjections base r room) writeCodes x refl refl

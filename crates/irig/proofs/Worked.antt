@@ -19,6 +19,7 @@ use Rattle.calendar.specs.Calendar.{
   inYear,
   monthDay,
 }
+use Rattle.laws.specs.Tests.{among}
 use Rattle.reading.specs.declared.Reading.{Reading}
 use Rattle.reading.specs.declared.Verdict.the-variants.{Good}
 use Rattle.reading.specs.declared.Written.{Written}
@@ -32,7 +33,7 @@ use Rattle.reading.specs.Checks.{timeBad, dateBad, checkedOf}
 use Rattle.pulses.specs.Row.{groupOf, weightOf, pulseAllowed, pulseOf, digitOf, pulseFor, row, goodPulses, shareOf, sumOf, sumsOf, upTo, onesFrom}
 use Rattle.irig_table.specs.Table.{framePulses}
 use Rattle.irig_table.specs.Paper.{markDue}
-use Rattle.irig_table.proofs.WorkedFrame.{ones, among}
+use Rattle.irig_table.proofs.WorkedFrame.{ones}
 use Rattle.irig.specs.declared.Answer.{Answer}
 use Rattle.irig.specs.declared.Answer.the-variants.{Time, No}
 use Rattle.irig.specs.Meaning.{
@@ -74,7 +75,7 @@ abbrev pub case6 : Reading
 case6 = atOffset (pos 2)
 
 pub case-6 : frameOf case6 ≡ upTo (λ i. cond (markDue i) 2 (cond (among i ones) 1 0)) frameLength
-unfolding frameOf parityOf valuesOf groupsOf dayOfYear daysBefore daysIn leapYear framePulses ones among row pulseFor pulseOf digitOf groupOf weightOf upTo onesFrom
+unfolding frameOf parityOf valuesOf groupsOf dayOfYear daysBefore daysIn leapYear framePulses ones row pulseFor pulseOf digitOf groupOf weightOf upTo onesFrom
 case-6 = refl
 
 -- ---- which code the reader and the writer refuse by, 0 where they do not

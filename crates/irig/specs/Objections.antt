@@ -1,4 +1,6 @@
 -- What can be wrong with an IEEE 1344 frame, and with what is to be written as one, with code and place.
+-- Conditions and codes are those of 01's table, as amended by L5, a place is that of "the first byte of the lowest offending field".
+-- (Of an input of another length, code 2 may hold too: code 1 goes before it.)
 use mathlib.Core.Bool.{true, not, _||_}
 use mathlib.Core.List.{List, [], _∷_}
 use mathlib.Core.Path.{_≡_}

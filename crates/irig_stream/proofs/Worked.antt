@@ -7,6 +7,7 @@ use Prim.Native.Nat.{ℕ}
 use lib.IntN.{pos}
 use lib.ListN.{set, drop, replicate}
 use Rattle.calendar.specs.Calendar.{leapYear, inYear, yearLength}
+use Rattle.laws.specs.Tests.{among}
 use Rattle.reading.specs.Faults.{number}
 use Rattle.reading.specs.Years.{base, yearOf}
 use Rattle.reading.specs.Offset.{west, east, offsetGood}
@@ -14,7 +15,7 @@ use Rattle.pulses.specs.Row.{groupOf, weightOf, pulseAllowed, goodPulses, share
 use Rattle.pulses.specs.Outline.{inOutline, outlineOf}
 use Rattle.irig_table.specs.Table.{framePulses}
 use Rattle.irig_table.specs.Paper.{markDue}
-use Rattle.irig_table.proofs.WorkedFrame.{ones, among}
+use Rattle.irig_table.proofs.WorkedFrame.{ones}
 use Rattle.irig.specs.declared.Answer.{Answer}
 use Rattle.irig.specs.declared.Answer.the-variants.{Time as Told, No as Not}
 use Rattle.irig.specs.Meaning.{secondIn, minuteIn, hourIn, dayIn, digitsIn, yearIn, dayBad, secondOfDayWrong}
@@ -36,7 +37,7 @@ abbrev twice : Answer → List Said
 twice a = replicate 99 Nothing ++ (saidOf a ∷ replicate 98 Nothing ++ (saidOf a ∷ []))
 
 outlines : owedTo (owed base) [] (pulses6 ++ drop 1 pulses6) ≡ twice (readFrame base pulses6)
-unfolding owedTo owed sayOf lastOf outlineOf inOutline groupOf framePulses upTo among ones
+unfolding owedTo owed sayOf lastOf outlineOf inOutline groupOf framePulses upTo ones
 outlines = refl
 
 read-6 : readFrame base pulses6 ≡ Told case6
@@ -52,11 +53,11 @@ abbrev pulses7 : List ℕ
 pulses7 = set pulses6 84 0
 
 outlines-7 : owedTo (owed base) [] pulses7 ≡ replicate 99 Nothing ++ (saidOf (readFrame base pulses7) ∷ [])
-unfolding owedTo owed sayOf lastOf outlineOf inOutline groupOf framePulses upTo among ones
+unfolding owedTo owed sayOf lastOf outlineOf inOutline groupOf framePulses upTo ones
 outlines-7 = refl
 
 read-7 : readFrame base pulses7 ≡ Not (record { code = 7; place = 80 })
-unfolding number readFrame faultIn valuesFault fieldsFault isOdd secondIn minuteIn hourIn dayIn digitsIn yearIn dayBad secondOfDayWrong goodPulses pulseAllowed sumsOf sumOf shareOf upTo among ones groupOf weightOf framePulses onesFrom leapYear inYear yearLength yearOf
+unfolding number readFrame faultIn valuesFault fieldsFault isOdd secondIn minuteIn hourIn dayIn digitsIn yearIn dayBad secondOfDayWrong goodPulses pulseAllowed sumsOf sumOf shareOf upTo ones groupOf weightOf framePulses onesFrom leapYear inYear yearLength yearOf
 read-7 = refl
 
 pub case-7 : answers base pulses7 ≡ replicate 99 Nothing ++ (No (record { code = 7; place = 80 }) ∷ [])

@@ -5,13 +5,16 @@ use mathlib.Core.Path.{_≡_, refl}
 use Prim.Native.Nat.{ℕ}
 use lib.Dec.{ltb}
 use Rattle.reading.specs.declared.Reading.{Reading}
+use Rattle.reading.specs.declared.Refusal.{Refusal}
 use Rattle.reading.specs.declared.Fault.the-variants.{Length, NotCarried}
 use Rattle.reading.specs.declared.Verdict.the-variants.{Good}
 use Rattle.reading.specs.Universal.{utcOf}
 use Rattle.reading.specs.Leap.{sixtyBad}
 use Rattle.reading.specs.Writing.{writtenOf}
-use Rattle.reading.specs.Objections.{readingObjections, WrittenOwed}
-use Rattle.reading.proofs.RefusalLaws.{Through, none, judged, one-then-other, verdict-owed}
+use Rattle.reading.specs.Refusals.{Owed}
+use Rattle.reading.specs.Objections.{checkObjections, readingObjections, WrittenOwed}
+use Rattle.reading.proofs.RefusalLaws.{Through, none, judged, one-then-other, always-at-0, verdict-owed}
+use Rattle.reading.proofs.OneDue.{owed-one}
 use Rattle.reading.proofs.OwedLaws.{checked-through, written-owed}
 use Rattle.strings.specs.Checks.{faultOf, AnswerOwed}
 use Rattle.strings.proofs.OwedLaws.{answer-owed}
@@ -42,7 +45,20 @@ write-through base r room =
 
 pub write-owed : (base : ℕ) (r : Reading) (room : ℕ)
     → WrittenOwed (writeObjections base r room) writeCodes (writtenOf (writeFault base r room) textLength)
-unfolding writeObjections readingObjections
+unfolding writeObjections readingObjections checkObjections
 write-owed base r room =
     written-owed (writeObjections base r room) writeCodes (writeFault base r room) textLength
     (verdict-owed writeCodes (write-through base r room) refl refl)
+
+-- ---- which fixes the refusal, and a writer's is at place 0
+
+pub read-one : (base : ℕ) (s : List ℕ) (x y : Refusal) → Owed (readObjections base s) readCodes x → Owed (readObjections base s) readCodes y → x ≡ y
+read-one base s x y = owed-one (readObjections base s) readCodes x y refl
+
+module _ (base : ℕ) (r : Reading) (room : ℕ) (x : Refusal) where
+  pub write-one : (y : Refusal) → Owed (writeObjections base r room) writeCodes x → Owed (writeObjections base r room) writeCodes y → x ≡ y
+  write-one y = owed-one (writeObjections base r room) writeCodes x y refl
+
+  pub write-at-0 : Owed (writeObjections base r room) writeCodes x → x .place ≡ 0
+  unfolding writeObjections readingObjections checkObjections
+  write-at-0 = always-at-0 (writeObjections base r room) writeCodes x refl refl

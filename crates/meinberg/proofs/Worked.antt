@@ -13,13 +13,13 @@ use Rattle.reading.specs.Leap.{closesWithLeap, leapMinute, sixtyBad}
 use Rattle.reading.specs.Offset.{west, east, offsetGood}
 use Rattle.reading.specs.Universal.{utcMinutes, onDay, utcOf}
 use Rattle.reading.specs.Years.{base, inHundred, yearOf}
-use Rattle.reading.specs.Checks.{timeBad, dateBad, checkedOf, dayBad, weekdayWrong}
+use Rattle.reading.specs.Checks.{timeBad, dateBad, checkedOf, dayBad, monthBad, weekdayWrong}
 use Rattle.reading.specs.Stamps.{hasStamp, stampNumber, stampAt, stampOf}
 use Rattle.wire.specs.Digits.{digit, pair}
 use Rattle.wire.specs.Layout.{packed, exactly, from, either, oneOf, within, beside, allowed, goodPlaces}
 use Rattle.strings.specs.declared.Answer.{Answer}
 use Rattle.strings.specs.declared.Answer.the-variants.{Time, No}
-use Rattle.strings.specs.Checks.{monthBad, weekdayBad, faultOf}
+use Rattle.strings.specs.Checks.{weekdayBad, faultOf}
 use Rattle.meinberg.specs.Layout.{layout}
 use Rattle.meinberg.specs.Zones.{offsetOf, summerOf}
 use Rattle.meinberg.specs.Meaning.{qualityOf, coastingIn, meaning, faultIn, readMeinberg}

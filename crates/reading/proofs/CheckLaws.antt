@@ -3,9 +3,9 @@ use mathlib.Core.Bool.{Bool, true, false, not, _&&_, _||_}
 use mathlib.Core.Path.{_≡_, refl}
 use Prim.Native.Nat.{ℕ, _≤_}
 use native.Mathlib.Omega.{arith}
-use lib.Dec.{eqb}
-use borrow.Author.Tests.{not-false, ltb-false, le-ltb, eqb-true, eq-eqb}
-use Rattle.calendar.specs.Calendar.{leapYear, weekdayOf, isMonth, isDay, isDate}
+use lib.Dec.{eqb, leb}
+use borrow.Author.Tests.{not-true, not-false, ltb-false, le-ltb, eqb-true, eq-eqb}
+use Rattle.calendar.specs.Calendar.{leapYear, weekdayOf, isMonth, lastDay, isDay, isDate}
 use Rattle.laws.proofs.Bools.{both, neither}
 use Rattle.reading.specs.declared.Reading.{Reading}
 use Rattle.reading.specs.declared.Fault.{Fault}
@@ -16,7 +16,7 @@ use Rattle.reading.specs.Years.{inHundred}
 use Rattle.reading.specs.Offset.{offsetGood}
 use Rattle.reading.specs.Universal.{dateOf, utcOf}
 use Rattle.reading.specs.Leap.{sixtyBad}
-use Rattle.reading.specs.Checks.{hourBad, minuteBad, secondBad, timeBad, dateBad, qualityBad, checkedOf, dayBad, weekdayWrong}
+use Rattle.reading.specs.Checks.{hourBad, minuteBad, secondBad, timeBad, dateBad, qualityBad, checkedOf, dayBad, monthBad, weekdayWrong}
 
 pub clash : {A : Type 0} → _≡_ {A = ℕ} 0 1 → A
 clash z = absurd (no z)
@@ -87,13 +87,18 @@ is-checked base r p =
 
 -- ---- what a reader's two checks tell, and back
 
-pub date-there : (r : Reading) → dayBad r ≡ false → not (isMonth (r .month)) ≡ false → isDate (dateOf r) ≡ true
-unfolding dayBad isDate
+pub date-there : (r : Reading) → dayBad r ≡ false → monthBad r ≡ false → isDate (dateOf r) ≡ true
+unfolding dayBad monthBad isDate
 date-there r d m = rw (not-false (isMonth (r .month)) m, not-false (isDay (leapYear (r .year)) (r .month) (r .day)) d)
 
-pub date-parts : (r : Reading) → isDate (dateOf r) ≡ true → (isMonth (r .month) ≡ true) × (dayBad r ≡ false)
-unfolding dayBad isDate
-date-parts r e = let p = both (isMonth (r .month)) (isDay (leapYear (r .year)) (r .month) (r .day)) e in (p .0, rw (p .1))
+pub date-parts : (r : Reading) → isDate (dateOf r) ≡ true → (monthBad r ≡ false) × (dayBad r ≡ false)
+unfolding dayBad monthBad isDate
+date-parts r e = let p = both (isMonth (r .month)) (isDay (leapYear (r .year)) (r .month) (r .day)) e in (rw (p .0), rw (p .1))
+
+-- "Under a bad month a day is bad only outside 1..31."
+pub under-bad-month : (r : Reading) → monthBad r ≡ true → dayBad r ≡ not (leb 1 (r .day) && leb (r .day) 31)
+unfolding dayBad monthBad isDay lastDay
+under-bad-month r e = rw (not-true (isMonth (r .month)) e)
 
 pub weekday-there : (r : Reading) (w : ℕ) → weekdayWrong r w ≡ false → w ≡ weekdayOf (dateOf r)
 unfolding weekdayWrong

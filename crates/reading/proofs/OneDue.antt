@@ -2,22 +2,23 @@
 use mathlib.Core.Bool.{Bool, true, false, not, _&&_}
 use mathlib.Core.List.{List, [], _∷_}
 use mathlib.Core.Logic.{⊎-elim}
-use mathlib.Core.Path.{_≡_, refl, sym, _∙_}
+use mathlib.Core.Path.{_≡_, refl, sym, ap, _∙_}
 use Prim.Native.Nat.{ℕ, suc}
 use native.Mathlib.Omega.{arith}
 use lib.Dec.{eqb, ltb}
 use borrow.Author.Tests.{eq-eqb, eqb-true, ltb-false, not-true}
+use Rattle.laws.specs.Tests.{among}
 use Rattle.laws.proofs.Bools.{both, either, neither, never}
 use Rattle.reading.specs.declared.Refusal.{Refusal}
-use Rattle.reading.specs.Refusals.{order, Objection, objection, standsAt, goesBefore, raised, unpreceded, due, among}
+use Rattle.reading.specs.Refusals.{order, Objection, objection, standsAt, goesBefore, raised, unpreceded, due, Owed}
 
 -- a code of a list stands at a place of its own
-same-place : (codes : List ℕ) (c d : ℕ) → among codes c ≡ true → standsAt codes c ≡ standsAt codes d → c ≡ d
+same-place : (codes : List ℕ) (c d : ℕ) → among c codes ≡ true → standsAt codes c ≡ standsAt codes d → c ≡ d
 same-place [] c d m e = never m
-same-place (k ∷ rest) c d m e = go (λ n f. same-place rest c d n f) (eqb k c) refl (eqb k d) refl
+same-place (k ∷ rest) c d m e = go (λ n f. same-place rest c d n f) (eqb c k) refl (eqb d k) refl
   where
-    go : (among rest c ≡ true → standsAt rest c ≡ standsAt rest d → c ≡ d) → (a : Bool) → eqb k c ≡ a → (b : Bool) → eqb k d ≡ b → c ≡ d
-    go more true p true q = sym (eqb-true k c p) ∙ eqb-true k d q
+    go : (among c rest ≡ true → standsAt rest c ≡ standsAt rest d → c ≡ d) → (a : Bool) → eqb c k ≡ a → (b : Bool) → eqb d k ≡ b → c ≡ d
+    go more true p true q = eqb-true c k p ∙ sym (eqb-true d k q)
     go more true p false q = let z : _≡_ {A = ℕ} 0 (suc (standsAt rest d)) = rw (p, q) at e in absurd (omega arith)
     go more false p true q = let z : _≡_ {A = ℕ} (suc (standsAt rest c)) 0 = rw (p, q) at e in absurd (omega arith)
     go more false p false q =
@@ -47,7 +48,7 @@ not-before (o ∷ l) x y r u =
         let b = both (eqb (o .code) (x .code)) (eqb (o .place) (x .place)) (a .1) in
         moved o x y (eqb-true (o .code) (x .code) (b .0)) (eqb-true (o .place) (x .place) (b .1)) (rw (a .0) at n)
 
-pub due-one : (l : List Objection) (x y : Refusal) → among order (x .code) ≡ true → due l x ≡ true → due l y ≡ true → x ≡ y
+due-one : (l : List Objection) (x y : Refusal) → among (x .code) order ≡ true → due l x ≡ true → due l y ≡ true → x ≡ y
 unfolding due
 due-one l x y m p q =
     let a = both (raised l x) (unpreceded l x) p in
@@ -61,3 +62,17 @@ due-one l x y m p q =
     let high = ltb-false (y .place) (x .place) (rw (eq-eqb (y .code) (x .code) (sym code)) at (yx .1)) in
     let place : x .place ≡ y .place = omega arith in
     λ i. record { code = code i; place = place i }
+
+-- codes that are all in the order
+abbrev pub allIn : List ℕ → List ℕ → Bool
+allIn all [] = true
+allIn all (c ∷ rest) = among c all && allIn all rest
+
+one-of : (all codes : List ℕ) (c : ℕ) → allIn all codes ≡ true → among c codes ≡ true → among c all ≡ true
+one-of all [] c w m = never m
+one-of all (k ∷ rest) c w m =
+    let p = both (among k all) (allIn all rest) w in
+    ⊎-elim (λ h. ap (λ (n : ℕ). among n all) (eqb-true c k h) ∙ p .0) (λ h. one-of all rest c (p .1) h) (either (eqb c k) (among c rest) m)
+
+pub owed-one : (l : List Objection) (codes : List ℕ) (x y : Refusal) → allIn order codes ≡ true → Owed l codes x → Owed l codes y → x ≡ y
+owed-one l codes x y w p q = due-one l x y (one-of order codes (x .code) w (p .1)) (p .0) (q .0)

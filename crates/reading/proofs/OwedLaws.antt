@@ -1,9 +1,10 @@
 -- The code and place of a refusal by the checks that every writer shares, and by stamping.
 use mathlib.Core.Bool.{Bool, true, false, cond, not}
 use mathlib.Core.List.{List, []}
-use mathlib.Core.Path.{refl}
+use mathlib.Core.Path.{_≡_, refl}
 use Prim.Native.Nat.{ℕ}
 use Rattle.reading.specs.declared.Reading.{Reading}
+use Rattle.reading.specs.declared.Refusal.{Refusal}
 use Rattle.reading.specs.declared.Fault.the-variants.{OutsideStamps}
 use Rattle.reading.specs.declared.Verdict.{Verdict}
 use Rattle.reading.specs.declared.Verdict.the-variants.{Good, Bad}
@@ -13,12 +14,13 @@ use Rattle.reading.specs.Writing.{andThen, writtenOf}
 use Rattle.reading.specs.Universal.{utcOf}
 use Rattle.reading.specs.Checks.{checkedOf}
 use Rattle.reading.specs.Stamps.{hasStamp, stampNumber, stampAt, unlessBad, stampOf}
-use Rattle.reading.specs.Refusals.{Objection}
-use Rattle.reading.specs.Objections.{readingObjections, stampObjections, stampCodes, StampOwed, WrittenOwed}
-use Rattle.reading.proofs.RefusalLaws.{Through, none, judged, one-then-other, VerdictOwed, verdict-owed}
+use Rattle.reading.specs.Refusals.{Objection, Owed}
+use Rattle.reading.specs.Objections.{checkObjections, readingObjections, stampObjections, stampCodes, StampOwed, WrittenOwed}
+use Rattle.reading.proofs.RefusalLaws.{Through, none, judged, one-then-other, always-at-0, VerdictOwed, verdict-owed}
+use Rattle.reading.proofs.OneDue.{owed-one}
 
 pub checked-through : (base : ℕ) (r : Reading) → Through (readingObjections base r) (checkedOf base r)
-unfolding readingObjections checkedOf
+unfolding readingObjections checkObjections checkedOf
 checked-through base r = search (judged, none) depth 10
 
 -- what is promised of a verdict is promised of the writer that found it
@@ -35,7 +37,15 @@ stamped-owed l codes (Bad x) b n p = p
 
 -- "Stamping takes any reading and refuses it by .. alone"
 pub stamp-owed : (base : ℕ) (r : Reading) → StampOwed (stampObjections base r) stampCodes (stampOf base r)
-unfolding stampOf stampAt stampObjections readingObjections
+unfolding stampOf stampAt stampObjections readingObjections checkObjections
 stamp-owed base r =
     stamped-owed (stampObjections base r) stampCodes (checkedOf base r) (hasStamp (utcOf r .date .year)) (stampNumber (utcOf r) (r .second))
     (verdict-owed stampCodes (one-then-other (checked-through base r) (judged (not (hasStamp (utcOf r .date .year))) OutsideStamps 12 0 [] Good refl refl none)) refl refl)
+
+-- which fixes the refusal, at place 0
+pub stamp-one : (base : ℕ) (r : Reading) (x y : Refusal) → Owed (stampObjections base r) stampCodes x → Owed (stampObjections base r) stampCodes y → x ≡ y
+stamp-one base r x y = owed-one (stampObjections base r) stampCodes x y refl
+
+pub stamp-at-0 : (base : ℕ) (r : Reading) (x : Refusal) → Owed (stampObjections base r) stampCodes x → x .place ≡ 0
+unfolding stampObjections readingObjections checkObjections
+stamp-at-0 base r x = always-at-0 (stampObjections base r) stampCodes x refl refl

@@ -1,5 +1,5 @@
 -- A cascade of checks gives the refusal that is due: it goes through objections that stand in order, and stops at the first that holds.
-use mathlib.Core.Bool.{Bool, true, false, not, _&&_}
+use mathlib.Core.Bool.{Bool, true, false, not, _&&_, _||_}
 use mathlib.Core.List.{List, [], _∷_, _++_}
 use mathlib.Core.Logic.{⊎-elim}
 use mathlib.Core.Path.{_≡_, refl, sym, subst, ap, _∙_}
@@ -7,6 +7,7 @@ use Prim.Native.Nat.{ℕ}
 use native.Mathlib.Omega.{arith}
 use lib.Dec.{eqb}
 use borrow.Author.Tests.{eq-eqb, eqb-true, le-ltb, not-true}
+use Rattle.laws.specs.Tests.{among}
 use Rattle.laws.proofs.Bools.{both, either, never}
 use Rattle.reading.specs.declared.Refusal.{Refusal}
 use Rattle.reading.specs.declared.Fault.{Fault}
@@ -15,7 +16,7 @@ use Rattle.reading.specs.declared.Verdict.{Verdict}
 use Rattle.reading.specs.declared.Verdict.the-variants.{Good, Bad}
 use Rattle.reading.specs.Faults.{codeOf, placeOf, number, first}
 use Rattle.reading.specs.Writing.{andThen}
-use Rattle.reading.specs.Refusals.{order, Objection, objection, standsAt, goesBefore, raised, unpreceded, due, quiet, among, Owed}
+use Rattle.reading.specs.Refusals.{order, Objection, objection, standsAt, goesBefore, raised, unpreceded, due, quiet, Owed}
 
 -- ---- a verdict that goes through objections one by one
 
@@ -106,17 +107,51 @@ given (passes o l v h t) e = given-later o l v h (given t (both (noneBefore l (r
 
 abbrev pub coded : List ℕ → List Objection → Bool
 coded codes [] = true
-coded codes (o ∷ rest) = among codes (o .code) && coded codes rest
+coded codes (o ∷ rest) = among (o .code) codes && coded codes rest
 
-raised-coded : (codes : List ℕ) (l : List Objection) (x : Refusal) → coded codes l ≡ true → raised l x ≡ true → among codes (x .code) ≡ true
+raised-coded : (codes : List ℕ) (l : List Objection) (x : Refusal) → coded codes l ≡ true → raised l x ≡ true → among (x .code) codes ≡ true
 unfolding raised
 raised-coded codes [] x c e = never e
 raised-coded codes (o ∷ l) x c e =
-    let p = both (among codes (o .code)) (coded codes l) c in
+    let p = both (among (o .code) codes) (coded codes l) c in
     ⊎-elim
-    (λ h. ap (among codes) (sym (eqb-true (o .code) (x .code) (both (eqb (o .code) (x .code)) _ (both (o .holds) _ h .1) .0))) ∙ p .0)
+    (λ h. ap (λ (code : ℕ). among code codes) (sym (eqb-true (o .code) (x .code) (both (eqb (o .code) (x .code)) _ (both (o .holds) _ h .1) .0))) ∙ p .0)
     (λ h. raised-coded codes l x (p .1) h)
     (either (o .holds && (eqb (o .code) (x .code) && eqb (o .place) (x .place))) (raised l x) e)
+
+-- the same where the first of the objections does not hold
+pub coded-later : (codes : List ℕ) (o : Objection) (l : List Objection) (x : Refusal) → o .holds ≡ false → coded codes l ≡ true → due (o ∷ l) x ≡ true
+    → among (x .code) codes ≡ true
+unfolding due raised
+coded-later codes o l x e c d = raised-coded codes l x c (rw e at (both (raised (o ∷ l) x) (unpreceded (o ∷ l) x) d .0))
+
+-- ---- "Writers keep place 0": no objection but one to a byte has another place
+
+abbrev pub placeless : List Objection → Bool
+placeless [] = true
+placeless (o ∷ rest) = (eqb (o .code) 2 || eqb (o .place) 0) && placeless rest
+
+raised-at-0 : (l : List Objection) (x : Refusal) → placeless l ≡ true → raised l x ≡ true → (x .code ≡ 2 → ⊥) → x .place ≡ 0
+unfolding raised
+raised-at-0 [] x p e other = never e
+raised-at-0 (o ∷ l) x p e other =
+    let q = both (eqb (o .code) 2 || eqb (o .place) 0) (placeless l) p in
+    ⊎-elim (λ h. here (both (eqb (o .code) (x .code)) (eqb (o .place) (x .place)) (both (o .holds) _ h .1)) (q .0)) (λ h. raised-at-0 l x (q .1) h other)
+    (either (o .holds && (eqb (o .code) (x .code) && eqb (o .place) (x .place))) (raised l x) e)
+  where
+    here : (eqb (o .code) (x .code) ≡ true) × (eqb (o .place) (x .place) ≡ true) → (eqb (o .code) 2 || eqb (o .place) 0) ≡ true → x .place ≡ 0
+    here k q =
+        ⊎-elim (λ h. absurd (other (sym (eqb-true (o .code) (x .code) (k .0)) ∙ eqb-true (o .code) 2 h)))
+        (λ h. sym (eqb-true (o .place) (x .place) (k .1)) ∙ eqb-true (o .place) 0 h)
+        (either (eqb (o .code) 2) (eqb (o .place) 0) q)
+
+pub owed-at-0 : (l : List Objection) (codes : List ℕ) (x : Refusal) → placeless l ≡ true → Owed l codes x → (x .code ≡ 2 → ⊥) → x .place ≡ 0
+unfolding due
+owed-at-0 l codes x p w other = raised-at-0 l x p (both (raised l x) (unpreceded l x) (w .0) .0) other
+
+-- where 2 is no code at all
+pub always-at-0 : (l : List Objection) (codes : List ℕ) (x : Refusal) → placeless l ≡ true → among 2 codes ≡ false → Owed l codes x → x .place ≡ 0
+always-at-0 l codes x p no-byte w = owed-at-0 l codes x p w (λ e. never (sym no-byte ∙ ap (λ (code : ℕ). among code codes) (sym e) ∙ w .1))
 
 -- ---- what is promised of a verdict, which is what is promised of the answer made of it
 
@@ -155,6 +190,6 @@ nothing-before (o ∷ l) =
     at-first : (code place : ℕ) → goesBefore (objection (o .holds) code place) (record { code = 1; place = 0 }) ≡ false
     at-first code place = rw (le-ltb (standsAt order code) 0 (omega arith), le-ltb place 0 (omega arith), never-before (eqb code 1) false refl)
 
-pub length-owed : (l : List Objection) (codes : List ℕ) → among codes 1 ≡ true → Owed (asObjection true Length ∷ l) codes (number Length)
+pub length-owed : (l : List Objection) (codes : List ℕ) → among 1 codes ≡ true → Owed (asObjection true Length ∷ l) codes (number Length)
 unfolding due raised number
 length-owed l codes e = (rw (nothing-before (asObjection true Length ∷ l)), e)

@@ -1,8 +1,8 @@
--- The checks of a reading: those that every writer and stamping share, in the order of their codes, and two of the readers'.
+-- The checks of a reading: those that every writer and stamping share, in the order of their codes, and three of the readers'.
 use mathlib.Core.Bool.{Bool, not, _&&_, _||_}
 use Prim.Native.Nat.{ℕ}
 use lib.Dec.{eqb, ltb}
-use Rattle.calendar.specs.Calendar.{leapYear, weekdayOf, isDay, isDate}
+use Rattle.calendar.specs.Calendar.{leapYear, weekdayOf, isMonth, isDay, isDate}
 use Rattle.reading.specs.declared.Reading.{Reading}
 use Rattle.reading.specs.declared.Fault.the-variants.{Time, Date, QualityOrHead, Offset, LeapSecond}
 use Rattle.reading.specs.declared.Verdict.{Verdict}
@@ -32,20 +32,23 @@ abbrev pub qualityBad : ℕ → Bool
 qualityBad q = ltb 15 q
 
 -- the fault whose code comes first; "Writers keep place 0"
-abbrev pub lowestOf : Bool → Bool → Bool → Bool → Bool → Verdict
-lowestOf time date quality offset sixty =
+abbrev pub firstFault : Bool → Bool → Bool → Bool → Bool → Verdict
+firstFault time date quality offset sixty =
     first time (Time 0) (first date (Date 0) (first quality (QualityOrHead 0) (first offset (Offset 0) (first sixty (LeapSecond 0) Good))))
 
 -- the first fault of a reading whose year is one of the hundred from a base year on
 unfoldable pub checkedOf : ℕ → Reading → Verdict
 checkedOf base r =
-    lowestOf (timeBad r) (dateBad base r) (qualityBad (r .quality)) (not (offsetGood (r .offset .0))) (sixtyBad (utcOf r) (r .second))
+    firstFault (timeBad r) (dateBad base r) (qualityBad (r .quality)) (not (offsetGood (r .offset .0))) (sixtyBad (utcOf r) (r .second))
 
 -- ---- what a format says beside the reading, or finds of it field by field
 
 -- "a day that month lacks"; "Under a bad month a day is bad only outside 1..31"
 unfoldable pub dayBad : Reading → Bool
 dayBad r = not (isDay (leapYear (r .year)) (r .month) (r .day))
+
+unfoldable pub monthBad : Reading → Bool
+monthBad r = not (isMonth (r .month))
 
 -- "weekday doesn't fit the date"
 unfoldable pub weekdayWrong : Reading → ℕ → Bool

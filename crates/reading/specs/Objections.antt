@@ -1,5 +1,5 @@
 -- What can be wrong with a reading that is to be written or stamped, with code and place: "Writers keep place 0."
-use mathlib.Core.Bool.{true, not}
+use mathlib.Core.Bool.{Bool, true, not}
 use mathlib.Core.List.{List, [], _∷_, _++_}
 use mathlib.Core.Path.{_≡_}
 use Prim.Native.Nat.{ℕ}
@@ -15,15 +15,15 @@ use Rattle.reading.specs.Checks.{timeBad, dateBad, qualityBad}
 use Rattle.reading.specs.Stamps.{hasStamp}
 use Rattle.reading.specs.Refusals.{Objection, objection, quiet, Owed}
 
+-- a time, a date, a quality or head, an offset and a second 60, each at fault or not
+unfoldable pub checkObjections : Bool → Bool → Bool → Bool → Bool → List Objection
+checkObjections time date quality offset sixty =
+    objection time 15 0 ∷ objection date 16 0 ∷ objection quality 17 0 ∷ objection offset 8 0 ∷ objection sixty 9 0 ∷ []
+
 -- what every writer and stamping ask of a reading
 unfoldable pub readingObjections : ℕ → Reading → List Objection
 readingObjections base r =
-    objection (timeBad r) 15 0
-    ∷ objection (dateBad base r) 16 0
-    ∷ objection (qualityBad (r .quality)) 17 0
-    ∷ objection (not (offsetGood (r .offset .0))) 8 0
-    ∷ objection (sixtyBad (utcOf r) (r .second)) 9 0
-    ∷ []
+    checkObjections (timeBad r) (dateBad base r) (qualityBad (r .quality)) (not (offsetGood (r .offset .0))) (sixtyBad (utcOf r) (r .second))
 
 -- "stamp's UTC day outside 2000..2099" is 12
 unfoldable pub stampObjections : ℕ → Reading → List Objection

@@ -5,6 +5,7 @@ use mathlib.Core.List.{List, [], _∷_}
 use mathlib.Core.Path.{_≡_}
 use Prim.Native.Nat.{ℕ, suc}
 use lib.Dec.{eqb, ltb}
+use Rattle.laws.specs.Tests.{among}
 use Rattle.reading.specs.declared.Refusal.{Refusal}
 
 -- the order in which codes are judged. 01: "The lowest applicable code is given"; amended by L5: "15, 16 and 17 stand in 5's position,
@@ -12,7 +13,8 @@ use Rattle.reading.specs.declared.Refusal.{Refusal}
 abbrev pub order : List ℕ
 order = 1 ∷ 2 ∷ 3 ∷ 4 ∷ 15 ∷ 16 ∷ 17 ∷ 6 ∷ 7 ∷ 8 ∷ 9 ∷ 10 ∷ 11 ∷ 12 ∷ []
 
--- something that can be wrong: whether it is, and the code and place that it is refused with
+-- something that can be wrong: whether it is, and the code and place that it is refused with. The condition is one of the whole input,
+-- so that it holds or not also where another one holds.
 pub record Objection : Type 0 where
   pub holds : Bool
   pub code : ℕ
@@ -24,13 +26,14 @@ objection holds code place = record { holds = holds; code = code; place = place 
 -- how many codes of a list stand before a code
 abbrev pub standsAt : List ℕ → ℕ → ℕ
 standsAt [] code = 0
-standsAt (c ∷ rest) code = cond (eqb c code) 0 (suc (standsAt rest code))
+standsAt (c ∷ rest) code = cond (eqb code c) 0 (suc (standsAt rest code))
 
--- an objection goes before a refusal: its code stands earlier in the order, or it has the same code and a lower place
+-- an objection goes before a refusal: its code stands earlier in the order, or it has the same code and a lower place: "the place of the
+-- first byte of the lowest offending field"
 abbrev pub goesBefore : Objection → Refusal → Bool
 goesBefore o x = ltb (standsAt order (o .code)) (standsAt order (x .code)) || (eqb (o .code) (x .code) && ltb (o .place) (x .place))
 
--- one of the objections holds and has the code and the place of a refusal
+-- one of the objections holds and has the code and the place of a refusal: a code is given "only where its condition holds"
 unfoldable pub raised : List Objection → Refusal → Bool
 raised [] x = false
 raised (o ∷ rest) x = (o .holds && (eqb (o .code) (x .code) && eqb (o .place) (x .place))) || raised rest x
@@ -49,11 +52,6 @@ unfoldable pub quiet : List Objection → Bool
 quiet [] = true
 quiet (o ∷ rest) = not (o .holds) && quiet rest
 
--- a code is one of a list
-abbrev pub among : List ℕ → ℕ → Bool
-among [] code = false
-among (c ∷ rest) code = eqb c code || among rest code
-
 -- what is promised of a refusal: it is the one to give, and its code is one of those that can be given at all
 abbrev pub Owed : List Objection → List ℕ → Refusal → Type 0
-Owed objections codes x = (due objections x ≡ true) × (among codes (x .code) ≡ true)
+Owed objections codes x = (due objections x ≡ true) × (among (x .code) codes ≡ true)

@@ -14,7 +14,7 @@ ghost use mathlib.Core.Path.{_≡_};
 ghost use Rattle.reading.specs.Years.{base};
 ghost use Rattle.reading.specs.Universal.{utcOf};
 ghost use Rattle.reading.specs.Leap.{sixtyBad};
-ghost use Rattle.reading.specs.Checks.{hourBad, minuteBad, secondBad, timeBad, dateBad, qualityBad, checkedOf, lowestOf, dayBad, weekdayWrong};
+ghost use Rattle.reading.specs.Checks.{hourBad, minuteBad, secondBad, timeBad, dateBad, qualityBad, checkedOf, firstFault, dayBad, weekdayWrong};
 
 pub fn hour_bad(hour: u8) -> bool
     ensures { λ r. ⌜ r ≡ hourBad hour ⌝ }
@@ -67,8 +67,8 @@ pub fn leap_second_bad(r: Reading) -> bool
     !leap_minute(utc_of(r))
 }
 
-pub fn lowest(time: bool, date: bool, quality: bool, offset: bool, sixty: bool) -> Verdict
-    ensures { λ v. ⌜ v ≡ lowestOf time date quality offset sixty ⌝ }
+pub fn first_fault(time: bool, date: bool, quality: bool, offset: bool, sixty: bool) -> Verdict
+    ensures { λ v. ⌜ v ≡ firstFault time date quality offset sixty ⌝ }
 {
     if time {
         return Verdict::Bad(Fault::Time(0));
@@ -92,7 +92,7 @@ pub fn checked(r: Reading) -> Verdict
     ensures { λ v. ⌜ v ≡ checkedOf base r ⌝ }
 {
     let offset = r.offset;
-    lowest(
+    first_fault(
         time_bad(r),
         date_bad(r),
         quality_bad(r.quality),

@@ -11,10 +11,10 @@ use Rattle.reading.specs.declared.Reading.{Reading}
 use Rattle.reading.specs.declared.Verdict.the-variants.{Good}
 use Rattle.reading.specs.Universal.{dateOf, utcOf}
 use Rattle.reading.specs.Leap.{sixtyBad}
-use Rattle.reading.specs.Checks.{hourBad, minuteBad, secondBad, dayBad, weekdayWrong}
+use Rattle.reading.specs.Checks.{hourBad, minuteBad, secondBad, dayBad, monthBad, weekdayWrong}
 use Rattle.reading.proofs.CheckLaws.{first-good, date-there, date-parts, weekday-there, weekday-fits}
 use Rattle.strings.specs.declared.Places.{Places}
-use Rattle.strings.specs.Checks.{monthBad, weekdayBad, faultOf}
+use Rattle.strings.specs.Checks.{weekdayBad, faultOf}
 
 pub record Sound (r : Reading) (w : ℕ) (offset mark : Bool) : Type 0 where
   pub hour : r .hour ≤ 23
@@ -28,7 +28,7 @@ pub record Sound (r : Reading) (w : ℕ) (offset mark : Bool) : Type 0 where
 
 module _ (r : Reading) (w : ℕ) (offset mark : Bool) (p : Places) where
   pub sound : faultOf r w offset mark p ≡ Good → Sound r w offset mark
-  unfolding faultOf monthBad
+  unfolding faultOf
   sound e =
       let hour = first-good (hourBad (r .hour)) _ _ e in
       let minute = first-good (minuteBad (r .minute)) _ _ (hour .1) in
@@ -52,7 +52,7 @@ module _ (r : Reading) (w : ℕ) (offset mark : Bool) (p : Places) where
       }
 
   pub faultless : Sound r w offset mark → faultOf r w offset mark p ≡ Good
-  unfolding faultOf monthBad weekdayBad
+  unfolding faultOf weekdayBad
   faultless s =
       let date = date-parts r (s .date) in
       let week = weekday-range (dateOf r) in

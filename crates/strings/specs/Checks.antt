@@ -1,10 +1,9 @@
 -- The first fault of a date and a time that a string says: codes 15, 16, 6, 8 and 9, and within a code by rising place.
-use mathlib.Core.Bool.{Bool, true, not, _||_}
+use mathlib.Core.Bool.{Bool, true, _||_}
 use mathlib.Core.List.{List}
 use mathlib.Core.Path.{_≡_}
 use Prim.Native.Nat.{ℕ}
 use lib.Dec.{ltb}
-use Rattle.calendar.specs.Calendar.{isMonth}
 use Rattle.reading.specs.declared.Reading.{Reading}
 use Rattle.reading.specs.declared.Verdict.{Verdict}
 use Rattle.reading.specs.declared.Verdict.the-variants.{Good, Bad}
@@ -12,14 +11,11 @@ use Rattle.reading.specs.declared.Fault.the-variants.{Time, Date, Weekday, Offs
 use Rattle.reading.specs.Faults.{number, first}
 use Rattle.reading.specs.Universal.{utcOf}
 use Rattle.reading.specs.Leap.{sixtyBad}
-use Rattle.reading.specs.Checks.{hourBad, minuteBad, secondBad, dayBad, weekdayWrong}
+use Rattle.reading.specs.Checks.{hourBad, minuteBad, secondBad, dayBad, monthBad, weekdayWrong}
 use Rattle.reading.specs.Refusals.{Objection, quiet, Owed}
 use Rattle.strings.specs.declared.Places.{Places}
 use Rattle.strings.specs.declared.Answer.{Answer}
 use Rattle.strings.specs.declared.Answer.the-variants.{Time as Told, No}
-
-unfoldable pub monthBad : Reading → Bool
-monthBad r = not (isMonth (r .month))
 
 -- "Weekday 0, 8 or 9 is code 5", which by L5 is 16 for "a weekday out of range"
 unfoldable pub weekdayBad : ℕ → Bool

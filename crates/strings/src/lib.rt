@@ -15,7 +15,8 @@ use reading::checks::second_bad;
 use reading::checks::weekday_wrong;
 use reading::faults::refusal_of;
 ghost use mathlib.Core.Path.{_≡_};
-ghost use Rattle.strings.specs.Checks.{monthBad, weekdayBad, timeFault, dateFault, restFault, faultOf, answerOf};
+ghost use Rattle.reading.specs.Checks.{monthBad};
+ghost use Rattle.strings.specs.Checks.{weekdayBad, timeFault, dateFault, restFault, faultOf, answerOf};
 
 // What a string's reader answers: the time with its coasting mark, or why there is none.
 pub enum Answer {

@@ -8,7 +8,7 @@ use Rattle.reading.specs.Offset.{west, east, offsetGood, localOf}
 use Rattle.reading.specs.Years.{inHundred, yearOf}
 use Rattle.reading.specs.Universal.{utcMinutes, onDay, utcOf}
 use Rattle.reading.specs.Leap.{closesWithLeap, leapMinute, sixtyBad, withinMinute, leapWindow, changeWindow, afterLeap}
-use Rattle.reading.specs.Checks.{timeBad, dateBad, checkedOf, dayBad, weekdayWrong}
+use Rattle.reading.specs.Checks.{timeBad, dateBad, checkedOf, dayBad, monthBad, weekdayWrong}
 use Rattle.reading.specs.Stamps.{hasStamp, stampNumber, stampAt, stampOf}
 use Rattle.wire.specs.Digits.{digit, pair, tens, ones}
 use Rattle.wire.specs.Layout.{packed, exactly, from, either, oneOf, within, beside, allowed, goodPlaces, printable, printables}
@@ -37,7 +37,7 @@ use Rattle.book.specs.Body.{bodyLength, readBody}
 use Rattle.book.specs.Book.{recordAt, nextAt, recordsFrom}
 use Rattle.listing.specs.Listing.{lineAt, linesOf, bodyText, listing}
 use Rattle.worked.specs.Questions.{Case, answerTo}
-use Rattle.worked.specs.Given.{among, withOnes, turned}
+use Rattle.worked.specs.Given.{withOnes, turned}
 use Rattle.worked.specs.Cases.{cases}
 use Rattle.worked.specs.Pinned.{pinned}
 use Rattle.worked.specs.MonthEnds.{monthEnds}
@@ -48,13 +48,13 @@ abbrev pub AsPaper : List Case → Type 0
 AsPaper l = map (λ (c : Case). answerTo (c .asked)) l ≡ map (λ (c : Case). c .answer) l
 
 pub worked : AsPaper cases × AsPaper pinned × AsPaper monthEnds × AsPaper places
-unfolding cases pinned monthEnds places among withOnes turned answerTo
+unfolding cases pinned monthEnds places withOnes turned answerTo
     stampOf stampAt stampNumber hasStamp checkedOf timeBad dateBad sixtyBad leapMinute closesWithLeap afterLeap withinMinute leapWindow changeWindow
     utcOf onDay utcMinutes inHundred yearOf west east offsetGood localOf number
     leapYear daysIn daysBefore yearLength daysBeforeYear dayOfYear dayNumber weekdayOf
     isMonth lastDay isDay isDate dayBefore dayAfter yearAfter monthUpTo inYear monthDay
     digit pair tens ones packed exactly from either oneOf within beside allowed goodPlaces printable printables
-    dayBad weekdayWrong strings.monthBad strings.weekdayBad strings.faultOf
+    dayBad monthBad weekdayWrong strings.weekdayBad strings.faultOf
     meinberg-layout.layout zones.offsetOf zones.summerOf zones.isZone zones.zoneCarried zones.zoneLetter
     meinberg.qualityOf meinberg.coastingIn meinberg.meaning meinberg.faultIn meinberg.readMeinberg
     meinberg-writing.announcement meinberg-writing.bytesOf meinberg-writing.notCarried meinberg-writing.writeFault

@@ -5,6 +5,7 @@ use Prim.Native.Nat.{ℕ, zero, suc, _+_, _-_, _/_, _%_}
 use lib.Dec.{eqb}
 use lib.IntN.{ℤ, pos, negℤ}
 use lib.ListN.{getD, set, replicate}
+use Rattle.laws.specs.Tests.{among}
 use Rattle.reading.specs.declared.Reading.{Reading}
 
 -- ---- readings
@@ -52,11 +53,6 @@ abbrev pub case9 : Reading
 case9 = at 2000 1 1 0 30 0 (plus 2)
 
 -- ---- rows of pulses
-
--- i is one of the places
-unfoldable pub among : ℕ → List ℕ → Bool
-among i [] = false
-among i (p ∷ places) = eqb i p || among i places
 
 -- n pulses with ones at the places given, and a 2 where one is due
 unfoldable pub withOnes : (ℕ → Bool) → List ℕ → ℕ → List ℕ

@@ -1,10 +1,11 @@
 -- Which field was wrong, which request L5 splits code 5 for: "Reader refusals except 1 and 2 shall give the place of the first byte of the
--- lowest offending field, code 4 the parity place, and 9 the second or, for a DCF77 length, the last place." Each code and place of each
--- reader, and which goes first where two fields are wrong, in literal numbers.
+-- lowest offending field, code 4 the parity place, and 9 the second or, for a DCF77 length, the last place." In literal
+-- numbers: each code and place of each reader and writer that the lists of the cases, of codes and of month ends leave open, and which
+-- goes first where two fields are wrong.
 use mathlib.Core.Bool.{false}
 use mathlib.Core.List.{List, [], _∷_, _++_}
 use Prim.Native.Nat.{ℕ}
-use lib.ListN.{replicate}
+use lib.ListN.{take, drop, replicate}
 use Rattle.bridge.specs.declared.Kind.the-variants.{Meinberg, Erlangen}
 use Rattle.worked.specs.Questions.{
   Case,
@@ -28,6 +29,8 @@ use Rattle.worked.specs.Given.{
   flagged,
   at,
   plus,
+  case6,
+  case8,
   turned,
   frame6,
   minute8,
@@ -154,4 +157,17 @@ places =
     ∷ gives (stamp (flagged 2024 2 29 12 34 56 (plus 29) false false false 16)) (refused 17 0)
     ∷ gives (stamp (at 2024 2 29 12 34 60 (plus 29))) (refused 8 0)
     ∷ gives (stamp (at 2000 1 1 0 30 60 (plus 2))) (refused 9 0)
+    -- the codes that remain of each reader and writer: 1 and 2 of the strings, 1, 2, 8, 9 and 17 of the writers
+    ∷ gives (meinberg (take 31 (clock 29 2 4 12 34 56))) (refused 1 0)
+    ∷ gives (erlangen (take 67 (long 29 2 4 12 34 56))) (refused 1 0)
+    ∷ gives (erlangen (9 ∷ drop 1 (long 29 2 4 12 34 56))) (refused 2 0)
+    ∷ gives (toMeinberg (case6 (plus 2)) false (sevens 31)) (wroteNone 1 0 (sevens 31))
+    ∷ gives (toMeinberg (flagged 2024 2 29 12 34 60 (plus 29) false false false 16) false (sevens 32)) (wroteNone 17 0 (sevens 32))
+    ∷ gives (toErlangen (case6 (plus 2)) false position (sevens 67)) (wroteNone 1 0 (sevens 67))
+    ∷ gives (toErlangen (case6 (plus 2)) false (take 25 position) (sevens 68)) (wroteNone 1 0 (sevens 68))
+    ∷ gives (toErlangen (at 2024 2 29 24 34 56 (plus 2)) false (take 25 position ++ (127 ∷ [])) (sevens 68)) (wroteNone 2 25 (sevens 68))
+    ∷ gives (toErlangen (at 2024 2 29 12 34 60 (plus 29)) false position (sevens 68)) (wroteNone 8 0 (sevens 68))
+    ∷ gives (toErlangen (at 2024 2 29 12 34 60 (plus 2)) false position (sevens 68)) (wroteNone 9 0 (sevens 68))
+    ∷ gives (toPulses (at 2024 2 29 12 34 60 (plus 2)) (sevens 100)) (wroteNone 9 0 (sevens 100))
+    ∷ gives (toMarks case8 0 (sevens 59)) (wroteNone 1 0 (sevens 59))
     ∷ []

@@ -1,6 +1,6 @@
 -- `strings::month_bad` meets its contract. Assumes nothing.
 use borrow.Author.Needs.{needs}
-use Rattle.strings.specs.Checks.{monthBad}
+use Rattle.reading.specs.Checks.{monthBad}
 use Rattle.strings.proofs.month_bad.Statement.{statement}
 use Rattle.strings.proofs.month_bad.Tie as tie
 

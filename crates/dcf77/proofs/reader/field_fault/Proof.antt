@@ -1,5 +1,6 @@
 -- `dcf77::reader::field_fault` meets its contract. Assumes nothing.
 use borrow.Author.Needs.{needs}
+use Rattle.reading.specs.Checks.{monthBad}
 use Rattle.dcf77.specs.Reader.{fieldFault}
 use Rattle.dcf77.proofs.reader.field_fault.Statement.{statement}
 use Rattle.dcf77.proofs.reader.field_fault.Tie as tie
@@ -32,7 +33,7 @@ first-requires-5 : tie.Need-first-requires-5
 first-requires-5 c κs = search needs
 
 returns : tie.Need-returns
-unfolding fieldFault
+unfolding fieldFault monthBad
 returns c =
     rw (
       c .first5 .ensures,

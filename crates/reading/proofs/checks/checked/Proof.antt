@@ -19,12 +19,12 @@ is-good-requires c κs = search needs
 leap-second-bad-requires : tie.Need-leap-second-bad-requires
 leap-second-bad-requires c κs = search needs
 
-lowest-requires : tie.Need-lowest-requires
-lowest-requires c κs = search needs
+first-fault-requires : tie.Need-first-fault-requires
+first-fault-requires c κs = search needs
 
 returns : tie.Need-returns
 unfolding checkedOf
-returns c = rw (c .lowest .ensures, c .before .leap-second-bad .ensures, c .before .before .is-good .ensures, c .before .before .before .quality-bad .ensures, c .before .before .before .before .date-bad .ensures, c .before .before .before .before .before .time-bad .ensures)
+returns c = rw (c .first-fault .ensures, c .before .leap-second-bad .ensures, c .before .before .is-good .ensures, c .before .before .before .quality-bad .ensures, c .before .before .before .before .date-bad .ensures, c .before .before .before .before .before .time-bad .ensures)
 
 pub checked-spec : {M : Type 1} → statement M
 checked-spec =
@@ -35,5 +35,5 @@ checked-spec =
     quality-bad-requires
     is-good-requires
     leap-second-bad-requires
-    lowest-requires
+    first-fault-requires
     returns)

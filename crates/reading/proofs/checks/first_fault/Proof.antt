@@ -1,7 +1,7 @@
--- `reading::checks::lowest` meets its contract. Assumes nothing.
+-- `reading::checks::first_fault` meets its contract. Assumes nothing.
 use borrow.Author.Needs.{needs}
-use Rattle.reading.proofs.checks.lowest.Statement.{statement}
-use Rattle.reading.proofs.checks.lowest.Tie as tie
+use Rattle.reading.proofs.checks.first_fault.Statement.{statement}
+use Rattle.reading.proofs.checks.first_fault.Tie as tie
 
 returns : tie.Need-returns
 returns c = rw (c .if1 .taken)
@@ -21,5 +21,5 @@ returns-5 c = rw (c .before .before .before .before .if1 .left, c .before .befor
 returns-6 : tie.Need-returns-6
 returns-6 c = search needs
 
-pub lowest-spec : {M : Type 1} → statement M
-lowest-spec = tie.close (tie.spec returns returns-2 returns-3 returns-4 returns-5 returns-6)
+pub first-fault-spec : {M : Type 1} → statement M
+first-fault-spec = tie.close (tie.spec returns returns-2 returns-3 returns-4 returns-5 returns-6)
