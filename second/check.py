@@ -195,9 +195,10 @@ def allowed(op: int, line: str) -> bool:
 def check_streams(check: Checks) -> None:
     """Runs every named stream and a random one; afterwards looks at the refusals that came."""
     seen: Dict[int, Set[Tuple[int, int]]] = {op: set() for op in PLACES}
-    streams = {name: b"".join(make()) for name, make in cases.NAMED.items()}
-    streams["random"] = b"".join(case_random.make(3, 4000))
-    for name, stream in streams.items():
+    makers = {**cases.NAMED, "random": lambda: case_random.make(3, 4000)}
+    for name, make in makers.items():
+        stream = b"".join(make())
+        check.that(b"".join(make()) == stream, "%s is not deterministic" % name)
         for op, payload in answers.cases_of(stream):
             line = answers.answer_line(op, payload)
             if line == answers.BAD:
@@ -209,8 +210,6 @@ def check_streams(check: Checks) -> None:
             check.that(allowed(op, line), "a strange refusal: " + line)
             if name != "random":
                 seen[op].update(refusals_in(op, line))
-        again = b"".join(cases.NAMED[name]()) if name in cases.NAMED else stream
-        check.that(again == stream, "%s is not deterministic" % name)
     check_seen(check, seen)
 
 
