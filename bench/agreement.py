@@ -1,5 +1,6 @@
 """Before anything is counted: the proved functions, the C baseline and the second program have to give the same answers, on
-every record that is counted, on damaged ones, around every month end, and on inputs with one fault and with several."""
+every record that is counted, on damaged ones, around every month end, on inputs with one fault and with several, and on
+telegrams around every change."""
 import subprocess
 import sys
 
@@ -8,12 +9,13 @@ import records
 import rows
 import case_months
 import case_places
+import case_telegrams
 from book import listing_text
 from case_parts import bridge_case, case
 
 STEP = 7
 PULSES = (0, 1, 2, 255)
-ANSWERED_IN_C = {*range(1, 9), 10, 11, 12}
+ANSWERED_IN_C = {*range(1, 9), 10, 11, 12, 15}
 BOOK = 13
 
 
@@ -33,7 +35,7 @@ def damaged_streams(stream):
 
 def case_of(op, record):
     """A record as the second program's case."""
-    if op >= rows.BRIDGE:
+    if rows.BRIDGE <= op < rows.TELEGRAM:
         return bridge_case(op - rows.BRIDGE + 1, records.ROOM, record)
     return case(op, record)
 
@@ -52,9 +54,10 @@ def cases_of_pulses():
 
 
 def cases_of_second():
-    """The leap rule at every month end, and codes and places: the second program's own cases, as far as the C baseline answers
-    them."""
-    for name, make in (("month ends", case_months.make), ("codes and places", case_places.make)):
+    """The leap rule at every month end, codes and places, and telegrams: the second program's own cases, as far as the C
+    baseline answers them."""
+    for name, make in (("month ends", case_months.make), ("codes and places", case_places.make),
+                       ("telegrams", case_telegrams.make)):
         yield name, [one for one in make() if one[0] in ANSWERED_IN_C]
 
 

@@ -11,6 +11,7 @@ import dcf77  # noqa: E402
 import erlangen  # noqa: E402
 import ieee1344  # noqa: E402
 import meinberg  # noqa: E402
+import telegram  # noqa: E402
 from reading import Reading  # noqa: E402
 
 POSITION = case_parts.POSITION
@@ -19,6 +20,7 @@ START = datetime.datetime(2000, 1, 1)
 FORMATS = ("Meinberg", "Uni Erlangen", "IEEE 1344", "DCF77")
 LARGEST_OFFSET = 28
 OFFSETS = 53
+LAST_DAY = 36494  # December 2099 is left out: its last hours name minutes of 2100
 
 
 def zone_of(form, number):
@@ -116,6 +118,47 @@ def asked_in_vain(form, number):
     if form == "DCF77":
         return asked(form, long_minute_of(number), number, room=60)
     return asked(form, reading._replace(quality=1 + number % 14), number)
+
+
+def rule_of(number):
+    """Europe's rule and others: set dates from all the year, every weekday."""
+    if number % 3 == 0:
+        return telegram.Rule(telegram.SetDay(3, 25, 7), telegram.SetDay(10, 25, 7))
+    begin = datetime.date(2001, 1, 1) + datetime.timedelta(days=number * 41 % 200)
+    end = begin + datetime.timedelta(days=7 + number * 67 % 150)
+    return telegram.Rule(telegram.SetDay(begin.month, begin.day, number % 7 + 1),
+                         telegram.SetDay(end.month, end.day, number * 3 % 7 + 1))
+
+
+def sent_of(number, rule):
+    """Minutes from all the hundred years: of seven one in the hour before a change, and one in a month's last hour, the last
+    minute as often as not; with the month's last day."""
+    at = START + datetime.timedelta(days=number * 7919 % LAST_DAY, minutes=number * 617 % 1440)
+    last = datetime.datetime(at.year + at.month // 12, at.month % 12 + 1, 1) - datetime.timedelta(days=1)
+    if number % 7 == 3:
+        day = telegram.day_of_change(rule[number % 2], at.year)
+        at = datetime.datetime(day.year, day.month, day.day, 0, at.minute)
+    elif number % 7 == 0:
+        at = last.replace(hour=23, minute=59 if number % 2 else at.minute)
+    return at, last
+
+
+def telegram_asked(number, room=ROOM, at=None):
+    """A record that a telegram is made from, with room for it; a leap second is configured in two of three."""
+    rule = rule_of(number)
+    drawn, last = sent_of(number, rule)
+    asked = case_parts.Asked(*rule.begin, *rule.end, 0, 0, 0, 0, 0, 0, 0, 0, 0, beside_of("DCF77", number), room)
+    asked = case_parts.sent_at(at or drawn, asked)
+    return case_parts.asked_bytes(case_parts.with_leap(last, asked) if number % 7 == 0 or number % 3 else asked)
+
+
+def telegram_without_room(number):
+    return telegram_asked(number, room=10)
+
+
+def telegram_too_late(number):
+    """Names a minute whose local year, and often UTC year too, is 2100."""
+    return telegram_asked(number, at=datetime.datetime(2099, 12, 31, 22, 59) + datetime.timedelta(minutes=number % 61))
 
 
 def frames(count):

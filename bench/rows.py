@@ -7,15 +7,16 @@ import records
 SHORT = 20
 GOAL = 1.25
 PULSE_GOAL = 150
-READ, WRITE, BRIDGE = 1, 5, 13
+TELEGRAM_GOAL = 2
+READ, WRITE, BRIDGE, TELEGRAM = 1, 5, 13, 15
 FRAME_PULSES, MINUTE_PULSES = 11, 12
 # Operations that are the driver's work alone: its loop over the records, and for writers the readings taken apart before.
 LOOP, DECODING = 0, 9
 
 # A row: its name, the operation, the record of each number, the driver's operation that is taken off.
 Row = collections.namedtuple("Row", "name op record driver")
-# What was counted: instructions a record of ours and of the C baseline, and the goal where there is one of its own.
-Counted = collections.namedtuple("Counted", "name ours plain most", defaults=(None,))
+# What was counted: instructions a record of ours and of the C baseline, and in words the goal of its own that it misses.
+Counted = collections.namedtuple("Counted", "name ours plain missed", defaults=("",))
 
 
 def of_format(make, form):
@@ -23,7 +24,7 @@ def of_format(make, form):
 
 
 def record_rows():
-    """Every reader and writer: accepted, refused early, refused by its last check; and the bridge."""
+    """Every reader and writer, and the telegram: accepted, refused early, refused by its last check; and the bridge."""
     rows = []
     reads = (("accepted", records.accepted), ("refused: length", records.too_short),
              ("refused: first byte", records.first_byte_wrong), ("refused: last check", records.refused_late))
@@ -33,6 +34,9 @@ def record_rows():
         rows += [Row(f"read {form}, {name}", READ + place, of_format(make, form), LOOP) for name, make in reads]
     for place, form in enumerate(records.FORMATS):
         rows += [Row(f"write {form}, {name}", WRITE + place, of_format(make, form), DECODING) for name, make in writes]
+    telegrams = (("accepted", records.telegram_asked), ("refused: no room", records.telegram_without_room),
+                 ("refused: last check", records.telegram_too_late))
+    rows += [Row(f"telegram, {name}", TELEGRAM, make, LOOP) for name, make in telegrams]
     for place, form in enumerate(records.FORMATS[:2]):
         rows.append(Row(f"bridge {form}, accepted", BRIDGE + place, of_format(records.accepted, form), LOOP))
     return rows
@@ -76,15 +80,23 @@ def counted_rows(programs, length):
     own = drivers(programs, length)
     yield Counted("driver of readers and bridge", *own[LOOP])
     yield Counted("driver of writers", *own[DECODING])
+    writer = None
     for row in record_rows():
-        ours, plain = per_record(programs, row.op, row.record, length)
-        yield Counted(row.name, ours - own[row.driver][0], plain - own[row.driver][1])
+        ours, plain = (both - driver for both, driver in zip(per_record(programs, row.op, row.record, length), own[row.driver]))
+        if row.name == "write DCF77, accepted":
+            writer = ours
+        missed = row.name == "telegram, accepted" and ours > TELEGRAM_GOAL * writer
+        yield Counted(row.name, ours, plain, f"over {TELEGRAM_GOAL} times the writer" if missed else "")
 
 
 def pulses_between(programs, op, stream, first, last):
     """Instructions a pulse for the pulses from number `first` on, up to `last`."""
     ours, plain = both(programs, bytes((op, 1)) + stream[: first - 1], bytes((op, 1)) + stream[:last])
     return ours / (last + 1 - first), plain / (last + 1 - first)
+
+
+def not_under_goal(ours):
+    return f"not under {PULSE_GOAL}" if ours >= PULSE_GOAL else ""
 
 
 def pulse_rows(programs):
@@ -95,9 +107,10 @@ def pulse_rows(programs):
     kinds = (("IEEE 1344", FRAME_PULSES, frames, 201, 299, nearly, 300),
              ("DCF77", MINUTE_PULSES, minutes, 182, 240, unclosed, 242))
     for form, op, stream, first, last, spoiled, at in kinds:
-        yield Counted(f"pulse {form}, closes nothing (mean)", *pulses_between(programs, op, stream, first, last), PULSE_GOAL)
+        mean = pulses_between(programs, op, stream, first, last)
+        yield Counted(f"pulse {form}, closes nothing (mean)", *mean, not_under_goal(mean[0]))
         worst = pulses_between(programs, op, spoiled, at, at)
-        yield Counted(f"pulse {form}, closes nothing (nearly)", *worst, PULSE_GOAL)
+        yield Counted(f"pulse {form}, closes nothing (nearly)", *worst, not_under_goal(worst[0]))
         yield Counted(f"pulse {form}, closes", *pulses_between(programs, op, stream, last + 1, last + 1))
 
 

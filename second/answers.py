@@ -12,12 +12,14 @@ import ieee1344
 import meinberg
 import published
 import pulse_readers
+import telegram
 from book import listing_text
 from reading import Reading, Refusal, Told, stamp
 
 FILLING = 0xA5
 READING_BYTES = 12
 WRITER_BYTES = 15
+TELEGRAM_BYTES = 20
 BRIDGE_KINDS = {1: "Meinberg", 2: "Uni Erlangen"}
 BAD = "bad"
 
@@ -67,6 +69,22 @@ def write_line(write: Callable, payload: bytes) -> str:
     output = bytearray([FILLING]) * room
     answer = write(reading_of(payload), beside, payload[WRITER_BYTES:], output)
     return written_line(answer, output)
+
+
+def telegram_parts(payload: bytes) -> tuple:
+    """What a telegram is made of: rule, leap second, minute being sent, head, and the room."""
+    numbers = struct.unpack_from("<6BH4BBH2BHB", payload)
+    rule = telegram.Rule(telegram.SetDay(*numbers[0:3]), telegram.SetDay(*numbers[3:6]))
+    leap = numbers[12:15] if numbers[11] else None
+    return rule, leap, telegram.Sent(*numbers[6:11]), numbers[15], numbers[16]
+
+
+def telegram_line(payload: bytes) -> str:
+    if len(payload) < TELEGRAM_BYTES:
+        return BAD
+    *asked, room = telegram_parts(payload)
+    output = bytearray([FILLING]) * room
+    return written_line(telegram.write(*asked, output), output)
 
 
 def stamp_line(payload: bytes) -> str:
@@ -139,6 +157,7 @@ LINES = {
     12: lambda payload: said_line(pulse_readers.MinuteReader(), payload),
     13: lambda payload: listing_text(payload).replace("\n", "|"),
     14: lambda payload: published.table_line(),
+    15: telegram_line,
     20: lambda payload: changes_line(meinberg.read, payload),
     21: lambda payload: changes_line(erlangen.read, payload),
     22: lambda payload: changes_line(ieee1344.read, payload),

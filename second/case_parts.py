@@ -1,9 +1,10 @@
-"""Parts the case makers share: packing a case, packing a reading, and raw strings, frames and
-minutes that are built from any field values without asking whether they are good."""
+"""Parts the case makers share: packing a case, packing a reading or what a telegram is asked with,
+and raw strings, frames and minutes that are built from any field values without asking whether they
+are good."""
 
 import struct
-from datetime import datetime, timedelta
-from typing import Iterable
+from datetime import date, datetime, timedelta
+from typing import Iterable, NamedTuple
 
 import dcf77
 import ieee1344
@@ -14,6 +15,32 @@ POSITION = b" 51.9826N    9.2258E  176m"
 PLAIN = Reading(2024, 2, 29, 12, 34, 56, 2, False, False, False, 0)  # case 6 of document 01
 LARGEST_PAYLOAD = 4000
 REAL_LEAP_DAYS = ((2005, 12, 31), (2008, 12, 31), (2016, 12, 31), (2012, 6, 30), (2015, 6, 30))
+
+
+class Asked(NamedTuple):
+    """What a telegram is asked with, in the order of the payload."""
+
+    begin_month: int
+    begin_day: int
+    begin_weekday: int
+    end_month: int
+    end_day: int
+    end_weekday: int
+    year: int
+    month: int
+    day: int
+    hour: int
+    minute: int
+    leap_set: int
+    leap_year: int
+    leap_month: int
+    leap_day: int
+    head: int
+    room: int
+
+
+# A noon in summer by Europe's rule, no leap second configured.
+ASKED = Asked(3, 25, 7, 10, 25, 7, 2024, 6, 15, 12, 0, 0, 0, 0, 0, 0, 61)
 
 
 def case(op: int, payload: bytes = b"") -> bytes:
@@ -28,6 +55,21 @@ def reading_bytes(reading: Reading) -> bytes:
 def write_case(op: int, reading: Reading, beside: int = 0, room: int = 255,
                position: bytes = b"") -> bytes:
     return case(op, reading_bytes(reading) + struct.pack("<HB", beside, room) + position)
+
+
+def asked_bytes(asked: Asked) -> bytes:
+    return struct.pack("<6BH4BBH2BHB", *asked)
+
+
+def sent_at(utc: datetime, asked: Asked = ASKED, **changed: int) -> Asked:
+    """The same asked in another UTC minute, with other values changed too."""
+    return asked._replace(year=utc.year, month=utc.month, day=utc.day, hour=utc.hour,
+                          minute=utc.minute, **changed)
+
+
+def with_leap(day: date, asked: Asked) -> Asked:
+    """The same with a leap second configured at the end of a day."""
+    return asked._replace(leap_set=1, leap_year=day.year, leap_month=day.month, leap_day=day.day)
 
 
 def bridge_case(kind: int, room: int, string: bytes) -> bytes:

@@ -7,9 +7,11 @@ from typing import Callable, Dict, Iterator
 from case_parts import (POSITION, bridge_case, case, local, mend_frame, mend_minute, raw_erlangen,
                         raw_frame, raw_meinberg, raw_minute, reading_bytes, write_case)
 from case_streams import DAMAGES, damaged
+from case_telegrams import any_telegram
 from reading import Reading
 
 DAY_COUNT = 36525
+SHARE_OF_TELEGRAMS = 1 / 14  # as of each other op
 ODD_VALUES = {"year": (1999, 2100, 0, 65535), "month": (0, 13, 255), "day": (0, 29, 30, 31, 32, 255),
               "hour": (24, 0, 23, 255), "minute": (60, 59, 0, 255), "second": (60, 61, 59, 0, 255),
               "offset": (-25, 29, -24, 28, -128, 127), "quality": (0, 1, 14, 15, 16, 255)}
@@ -186,13 +188,19 @@ def a_change_case(dice: random.Random) -> bytes:
     return case(op, CHANGES[op](reading))
 
 
+def any_other(dice: random.Random) -> bytes:
+    """A case of any op but that of telegrams."""
+    luck = dice.random()
+    if luck < 0.0002:
+        return a_change_case(dice)
+    if luck < 0.01:
+        return a_bad_case(dice)
+    return MAKERS[dice.randrange(1, 14)](dice)
+
+
 def make(seed: int, count: int) -> Iterator[bytes]:
-    dice = random.Random(seed)
+    """Telegrams are drawn by dice of their own, so that the other cases of a seed do not depend on
+    them."""
+    dice, own_dice = random.Random(seed), random.Random("telegrams %d" % seed)
     for _ in range(count):
-        luck = dice.random()
-        if luck < 0.0002:
-            yield a_change_case(dice)
-        elif luck < 0.01:
-            yield a_bad_case(dice)
-        else:
-            yield MAKERS[dice.randrange(1, 14)](dice)
+        yield any_telegram(own_dice) if own_dice.random() < SHARE_OF_TELEGRAMS else any_other(dice)

@@ -12,6 +12,7 @@ import case_places
 import case_random
 import case_streams
 import case_strings
+import case_telegrams
 
 NAMED = {
     "table": lambda: iter([bytes((14, 0, 0))]),
@@ -24,6 +25,7 @@ NAMED = {
     "bridges": case_others.bridges,
     "streams": case_streams.make,
     "books": case_others.books,
+    "telegrams": case_telegrams.make,
 }
 
 

@@ -17,6 +17,7 @@ import ieee1344
 import meinberg
 from bridge import bridge
 from check_places import PLACES, check_places, check_seen, refusals_in
+from check_telegrams import check_read_back, check_telegrams
 from checks import Checks
 from pulse_readers import FrameReader
 from reading import Reading, Refusal, Told, stamp, utc_minute
@@ -159,12 +160,14 @@ def check_round_trip(check: Checks, op: int, payload: bytes, line: str) -> None:
     if op in readers and line.startswith("time"):
         told = readers[op](payload)
         check.that(written_back(op, told, payload) == payload + FILLED, "write back " + line)
-    if op in (5, 6, 7, 8, 10):
+    if op in (5, 6, 7, 8, 10, 15):
         words = line.split()
         output = b"" if words[-1] == "-" else bytes.fromhex(words[-1])
         length = int(words[1]) if words[0] == "wrote" else 0
         check.that(output[length:] == FILLED * (len(output) - length), "untouched " + line)
-        if words[0] == "wrote" and op != 10:
+        if words[0] == "wrote" and op == 15:
+            check_read_back(check, payload, output[:length])
+        if words[0] == "wrote" and op < 10:
             told = readers[op - 4](output[:length])
             beside = int.from_bytes(payload[12:14], "little")
             same = isinstance(told, Told) and told.reading == answers.reading_of(payload)
@@ -216,7 +219,7 @@ def check_streams(check: Checks) -> None:
 def main() -> None:
     check = Checks()
     for part in (check_dates, check_month_ends, check_frames, check_layouts, check_listing,
-                 check_places, check_order, check_streams):
+                 check_places, check_telegrams, check_order, check_streams):
         part(check)
     for what in check.failed[:50]:
         print("failed: " + what)

@@ -48,7 +48,7 @@ PLACES: Dict[int, Table] = {
     9: placeless(15, 16, 17, 8, 9, 12), 10: joined(MEINBERG, ERLANGEN), 11: FRAME, 12: MINUTE,
     13: {code: places for code, places in joined(
         MEINBERG, ERLANGEN, FRAME, MINUTE, placeless(12, 13, 14)).items() if code != 1},
-    14: {}}
+    14: {}, 15: placeless(1, 18, 15, 16, 17, 9, 12)}
 
 # Date, weekday and time; code, its place in Meinberg's string, its place in Uni Erlangen's.
 STRINGS = (
@@ -205,7 +205,7 @@ def check_seen(check: Checks, seen: Dict[int, Set[Tuple[int, int]]]) -> None:
         check.that(came == due, "refusals of op %d: %s" % (op, sorted(came ^ due)))
         check.that((2 in table) == (came != seen[op]), "wrong bytes of op %d" % op)
     codes = {code for refusals in seen.values() for code, _ in refusals}
-    check.that(codes == {1, 2, 3, 4, *range(6, 18)}, "every code of the papers, and not 5")
+    check.that(codes == {1, 2, 3, 4, *range(6, 19)}, "every code of the papers, and not 5")
 
 
 def check_places(check: Checks) -> None:

@@ -1,7 +1,6 @@
 /* The program crates/vectors over the C baseline: answers the cases that stand on standard input, a line each, in the words
    that second/README.md gives. */
 #include "cases.h"
-#include "formats.h"
 
 enum { LARGEST = 65536, LENT = 256 };
 
@@ -103,6 +102,14 @@ static void put_write(uint8_t op, const uint8_t *p, size_t length)
     put_written(a, lent, room);
 }
 
+static void put_telegram(const uint8_t *p)
+{
+    uint8_t lent[LENT];
+    size_t room = telegram_room_in(p);
+    memset(lent, 0xA5, sizeof lent);
+    put_written(telegram_in(p, lent, room), lent, room);
+}
+
 static void put_bridged(const uint8_t *p, size_t length)
 {
     uint8_t lent[LENT];
@@ -160,6 +167,8 @@ static void put_answer(uint8_t op, const uint8_t *payload, size_t length)
         put_frames(payload, length);
     else if (op == 12)
         put_minutes(payload, length);
+    else if (op == 15 && length >= TELEGRAM_LENGTH)
+        put_telegram(payload);
     else
         put("bad");
 }

@@ -1,5 +1,5 @@
-/* The formats of the C baseline: readers, writers, the bridge and the pulse readers. A reader's answer has code 0 where it
-   filled in the reading, and what stands beside it. */
+/* The formats of the C baseline: readers, writers, the telegram made from a summer rule, the bridge and the pulse readers. A
+   reader's answer has code 0 where it filled in the reading, and what stands beside it. */
 #ifndef FORMATS_H
 #define FORMATS_H
 
@@ -22,6 +22,27 @@ struct answer frame_write(const struct reading *r, uint8_t *out, size_t room);
 
 struct answer minute_read(const uint8_t *s, size_t length, struct reading *r, uint16_t *head);
 struct answer minute_write(const struct reading *r, uint16_t head, uint8_t *out, size_t room);
+
+/* What a telegram is made of. Summer begins and ends at 01:00 UTC on the first day at or after a set date that falls on a set
+   weekday, 1 is Monday. The dates and the minute are in UTC. */
+struct set_day {
+    uint8_t month, day, weekday;
+};
+struct summer_rule {
+    struct set_day begin, end;
+};
+struct leap_second {
+    bool is_set;
+    uint16_t year;
+    uint8_t month, day;
+};
+struct sent_minute {
+    uint16_t year;
+    uint8_t month, day, hour, minute;
+};
+/* Writes the minute that names the one after the minute being sent. */
+struct answer telegram_write(const struct summer_rule *rule, const struct leap_second *leap, const struct sent_minute *sent,
+                             uint16_t head, uint8_t *out, size_t room);
 
 enum kind { MEINBERG, ERLANGEN };
 struct answer bridge(enum kind kind, const uint8_t *s, size_t length, uint8_t *out, size_t room);

@@ -59,7 +59,7 @@ static void put_record(size_t at, uint8_t kind, size_t length)
     if (a.code)
         put_line(at, kind, " no ", a.code, a.value);
     else if (!stamp_of(&r, &stamp))
-        put_line(at, kind, " no ", OUTSIDE_STAMPS, 0);
+        put_line(at, kind, " no ", OUTSIDE_YEARS, 0);
     else
         put_line(at, kind, " ok ", stamp, 0);
 }

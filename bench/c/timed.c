@@ -1,7 +1,6 @@
 /* The program crates/timed over the C baseline: one operation on each of the records that stand on standard input, and a
    sum over the answers. */
 #include "cases.h"
-#include "formats.h"
 
 static uint64_t of_reading(const struct reading *r)
 {
@@ -15,6 +14,15 @@ static uint64_t of_answer(struct answer a) { return 256 * (uint64_t)a.code + a.v
 static uint64_t of_read(struct answer a, const struct reading *r, unsigned beside)
 {
     return a.code ? of_answer(a) : of_reading(r) + beside;
+}
+
+/* What a telegram is made of is taken apart here, within the record's own work, as crates/timed does. */
+static uint64_t of_telegram(const uint8_t *record, size_t size, uint8_t *page)
+{
+    if (size < TELEGRAM_LENGTH)
+        return 0;
+    size_t room = telegram_room_in(record);
+    return of_answer(telegram_in(record, page, room < PAGE ? room : PAGE));
 }
 
 /* Not inlined, so that the choice of the operation is made for each record, as it is in crates/timed. */
@@ -31,6 +39,7 @@ __attribute__((noinline)) static uint64_t read_one(uint8_t op, const uint8_t *re
     case 4: a = minute_read(record, size, &r, &head); return of_read(a, &r, head);
     case 13: return of_answer(bridge(MEINBERG, record, size, page, PAGE));
     case 14: return of_answer(bridge(ERLANGEN, record, size, page, PAGE));
+    case 15: return of_telegram(record, size, page);
     default: return size;
     }
 }

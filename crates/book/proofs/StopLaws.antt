@@ -10,7 +10,7 @@ use Rattle.laws.specs.Tests.{among}
 use Rattle.laws.proofs.Bools.{never}
 use Rattle.reading.specs.declared.Reading.{Reading}
 use Rattle.reading.specs.declared.Refusal.{Refusal}
-use Rattle.reading.specs.declared.Fault.the-variants.{OutsideStamps, CutShort, UnknownKind}
+use Rattle.reading.specs.declared.Fault.the-variants.{OutsideYears, CutShort, UnknownKind}
 use Rattle.reading.specs.Faults.{number}
 use Rattle.reading.specs.Universal.{utcOf}
 use Rattle.reading.specs.Stamps.{stampNumber}
@@ -61,7 +61,7 @@ not-own codes a b x m = (
   λ e. never (sym b ∙ ap (λ (z : Refusal). among (z .code) codes) (sym e) ∙ m),
 )
 
-by-12 : (x : Refusal) → x ≡ number OutsideStamps → NotOwn x
+by-12 : (x : Refusal) → x ≡ number OutsideYears → NotOwn x
 unfolding number
 by-12 x e = not-own (12 ∷ []) refl refl x (ap (λ (z : Refusal). among (z .code) (12 ∷ [])) e)
 
@@ -140,7 +140,7 @@ over-after-own-listed base b at k x n e own = go (recordAt base b at) refl e
     not-12 d (inr p) = absurd (d .1 p)
 
     no-stamp : (kind m : ℕ) (r : Reading) → stampingOf base (Accepted kind r) ≡ Unstamped k x
-        → (stampingOf base (Accepted kind r) ≡ Stamped kind m) ⊎ (stampingOf base (Accepted kind r) ≡ Unstamped kind (number OutsideStamps))
+        → (stampingOf base (Accepted kind r) ≡ Stamped kind m) ⊎ (stampingOf base (Accepted kind r) ≡ Unstamped kind (number OutsideYears))
         → recordAt base b (turns b (suc n) at) ≡ Over
     no-stamp kind m r f (inl s) = let z : _≡_ {A = ℕ} 0 1 = cc in clash z
     no-stamp kind m r f (inr s) = not-12 (by-12 x (cc)) own

@@ -8,7 +8,7 @@ use native.Mathlib.Decide.{ℕ-discrete, decLt}
 use native.Mathlib.Numerals.{add-one}
 use native.Mathlib.Omega.{arith}
 use lib.Dec.{leb, ltb}
-use borrow.Author.Tests.{lt-ltb, leb-true, ltb-true, ltb-false}
+use borrow.Author.Tests.{le-leb, lt-ltb, leb-true, ltb-true, ltb-false}
 use Rattle.laws.proofs.Bools.{both}
 use Rattle.calendar.specs.declared.Date.{Date}
 use Rattle.calendar.specs.Order.{Earlier}
@@ -39,6 +39,13 @@ real t e =
     let p = both (isMonth (t .month)) (leb 1 (t .day) && leb (t .day) (lastDay l (t .month))) e in
     let q = both (leb 1 (t .day)) (leb (t .day) (lastDay l (t .month))) (p .1) in
     record { one = leb-true 1 (t .day) (q .0); last = in-month l (t .month) (t .day) (p .0) (leb-true (t .day) (lastDay l (t .month)) (q .1)) }
+
+-- and back
+pub is-date : (t : Date) → Real t → isDate t ≡ true
+unfolding isDate isMonth isDay lastDay
+is-date t p =
+    let m = month-of t p in
+    rw (le-leb 1 (t .month) (m .0), le-leb (t .month) 12 (m .1), le-leb 1 (t .day) (p .one), le-leb (t .day) (daysIn (leapYear (t .year)) (t .month)) (p .last))
 
 -- ---- dates in order
 

@@ -10,6 +10,7 @@ use lib.ListN.{length}
 use Rattle.reading.specs.declared.Reading.{Reading}
 use Rattle.reading.specs.declared.Fault.{Fault}
 use Rattle.reading.specs.declared.Fault.the-variants.{Length, LeapSecond}
+use Rattle.reading.specs.declared.Verdict.{Verdict}
 use Rattle.reading.specs.declared.Verdict.the-variants.{Good, Bad}
 use Rattle.reading.specs.Faults.{number}
 use Rattle.reading.specs.Universal.{utcOf}
@@ -77,18 +78,27 @@ unfolding lengthOf
 at-least true = omega arith
 at-least false = omega arith
 
+module _ (long : Bool) (room : ℕ) where
+  -- whatever was found, fewer than 60 bytes are too few
+  pub room-short : (v : Verdict) → room < shortLength → roomFault v long room ≡ Bad Length
+  unfolding roomFault needed
+  room-short v k = rw (lt-ltb room (lengthOf (isGood v && long)) (omega (arith, at-least (isGood v && long))))
+
+  -- and 60 are enough for a refusal of another code
+  pub room-own : (x : Fault) → shortLength ≤ room → roomFault (Bad x) long room ≡ Bad x
+  unfolding roomFault needed lengthOf
+  room-own x k = rw (le-ltb room shortLength k)
+
 module _ (base : ℕ) (r : Reading) (h : ℕ) where
   -- fewer than 60 bytes are too few for anything
   pub too-few-bytes : (room : ℕ) → room < shortLength → writeFault base r h room ≡ Bad Length
-  unfolding writeFault roomFault needed
-  too-few-bytes room k =
-      let n = lengthOf (isGood (carryFault base r h) && dueLong r) in
-      rw (lt-ltb room n (omega (arith, at-least (isGood (carryFault base r h) && dueLong r))))
+  unfolding writeFault
+  too-few-bytes room k = room-short (dueLong r) room (carryFault base r h) k
 
   -- 60 bytes are enough for a refusal of another code
   pub own-code : (room : ℕ) (x : Fault) → carryFault base r h ≡ Bad x → shortLength ≤ room → writeFault base r h room ≡ Bad x
-  unfolding writeFault roomFault needed lengthOf
-  own-code room x e k = rw (e, le-ltb room shortLength k)
+  unfolding writeFault
+  own-code room x e k = rw e (room-own (dueLong r) room x k)
 
   -- and too few for a long minute that is accepted
   pub long-needs-all : carryFault base r h ≡ Good → dueLong r ≡ true → writeFault base r h shortLength ≡ Bad Length

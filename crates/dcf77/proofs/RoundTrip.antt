@@ -10,7 +10,7 @@ use lib.ListN.{length, take, drop}
 use lib.Seq.{take-at}
 use Rattle.reading.specs.declared.Reading.{Reading}
 use Rattle.reading.specs.declared.Refusal.{Refusal}
-use Rattle.reading.specs.declared.Fault.the-variants.{OutsideStamps}
+use Rattle.reading.specs.declared.Fault.the-variants.{OutsideYears}
 use Rattle.reading.specs.declared.Verdict.{Verdict}
 use Rattle.reading.specs.declared.Verdict.the-variants.{Good, Bad}
 use Rattle.reading.specs.declared.Written.the-variants.{Length, No}
@@ -77,9 +77,13 @@ exactly base s r h =
 
 -- ---- over the contracts of the writer
 
-written-good : (v : Verdict) (m n : ℕ) → writtenOf v m ≡ Length n → (v ≡ Good) × (m ≡ n)
+pub written-good : (v : Verdict) (m n : ℕ) → writtenOf v m ≡ Length n → (v ≡ Good) × (m ≡ n)
 written-good Good m n e = (refl, cc)
 written-good (Bad x) m n e = let z : _≡_ {A = ℕ} 0 1 = cc in clash z
+
+pub untouched : (v : Verdict) (m : ℕ) (bytes out : List ℕ) (x : Refusal) → writtenOf v m ≡ No x → filled v bytes out ≡ out
+untouched (Bad fault) m bytes out x e = refl
+untouched Good m bytes out x e = let z : _≡_ {A = ℕ} 0 1 = cc in clash z
 
 module _ (base : ℕ) (r : Reading) (h : ℕ) (out : List ℕ) where
   abbrev verdict : Verdict
@@ -105,11 +109,7 @@ module _ (base : ℕ) (r : Reading) (h : ℕ) (out : List ℕ) where
 
   -- a refusal leaves the buffer as it was
   pub refused-untouched : (n : Refusal) → writtenOf verdict (lengthOf (dueLong r)) ≡ No n → filled verdict (bytesOf r h) out ≡ out
-  refused-untouched n e = untouched verdict e
-    where
-      untouched : (v : Verdict) → writtenOf v (lengthOf (dueLong r)) ≡ No n → filled v (bytesOf r h) out ≡ out
-      untouched (Bad x) e = refl
-      untouched Good e = let z : _≡_ {A = ℕ} 0 1 = cc in clash z
+  refused-untouched n e = untouched verdict (lengthOf (dueLong r)) (bytesOf r h) out n e
 
 -- ---- what is read is a time, and so has a stamp where there are stamps
 
@@ -118,13 +118,13 @@ accepted-checked base s r h e = carried base r h (read-bytes base s r h e .0) .c
 
 -- stamping it is refused by 12 alone
 pub accepted-stamped : (base : ℕ) (s : List ℕ) (r : Reading) (h : ℕ) → readDcf77 base s ≡ Time r h
-    → (stampOf base r ≡ At (stampNumber (utcOf r) (r .second))) ⊎ (stampOf base r ≡ Refused (number OutsideStamps))
+    → (stampOf base r ≡ At (stampNumber (utcOf r) (r .second))) ⊎ (stampOf base r ≡ Refused (number OutsideYears))
 accepted-stamped base s r h e = go (hasStamp (utcOf r .date .year)) refl
   where
     c : checkedOf base r ≡ Good
     c = accepted-checked base s r h e
 
     go : (b : Bool) → hasStamp (utcOf r .date .year) ≡ b
-        → (stampOf base r ≡ At (stampNumber (utcOf r) (r .second))) ⊎ (stampOf base r ≡ Refused (number OutsideStamps))
+        → (stampOf base r ≡ At (stampNumber (utcOf r) (r .second))) ⊎ (stampOf base r ≡ Refused (number OutsideYears))
     go true k = inl (is-stamp base r (stampNumber (utcOf r) (r .second)) (record { checked = c; year = k; value = refl }))
     go false k = inr (refused-by-12 base r c k)

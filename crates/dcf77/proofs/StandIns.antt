@@ -93,7 +93,7 @@ module _ (base : ℕ) where
       omega (arith, minute-is 0, minute-is 1)
 
   -- marks that are none
-  no-marks : readDcf77 base (replicate 60 3) ≡ No (number (Byte 0))
+  pub no-marks : readDcf77 base (replicate 60 3) ≡ No (number (Byte 0))
   unfolding readDcf77 readFault lengthBad isLong tableFor goodPulses pulseAllowed groupOf minuteMarks sharedMarks lastMarks
   no-marks = refl
 

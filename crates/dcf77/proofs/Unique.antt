@@ -9,6 +9,11 @@ use Rattle.dcf77.proofs.Dcf77.read.Kinds as read-kinds
 use Rattle.dcf77.proofs.Dcf77.read.Reads as read-reads
 use Rattle.dcf77.proofs.Dcf77.write.Kinds as write-kinds
 use Rattle.dcf77.proofs.Dcf77.write.Reads as write-reads
+use Rattle.dcf77.proofs.zones.offset_in.Kinds as offset-in-kinds
+use Rattle.dcf77.proofs.zones.offset_in.Reads as offset-in-reads
+
+pub offset-in-one : Coincide 0 offset-in-kinds.ps offset-in-kinds.r offset-in-reads.Post
+offset-in-one κs a x y e f p q = cc
 
 pub read-one : Coincide 1 read-kinds.ps read-kinds.r read-reads.Post
 read-one κs a x y e f p q = cc

@@ -3,6 +3,7 @@
 mod reader;
 mod rules;
 mod writer;
+pub mod zones;
 
 use reading::Reading;
 use reading::Refusal;

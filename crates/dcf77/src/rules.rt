@@ -1,9 +1,8 @@
-// What reader and writer share: the two zones, the form that is due, and the order of faults.
+// What reader and writer share: the form that is due, and the order of faults.
 use super::Dcf77;
 use calendar::Date;
 use calendar::days::weekday;
 use reading::Fault;
-use reading::LocalMinusUtc;
 use reading::Reading;
 use reading::Verdict;
 use reading::leap::after_leap;
@@ -13,7 +12,6 @@ ghost use Rattle.calendar.specs.Calendar.{weekdayOf};
 ghost use Rattle.reading.specs.Universal.{dateOf};
 ghost use Rattle.reading.specs.Faults.{first};
 ghost use Rattle.reading.specs.Writing.{andThen};
-ghost use Rattle.dcf77.specs.Zones.{offsetIn, zoneOf};
 ghost use Rattle.dcf77.specs.Forms.{lengthOf, dueLong};
 
 // Where each field begins, and where its parity mark stands.
@@ -37,29 +35,6 @@ pub(super) mod places {
     pub const YEAR: usize = 50;
 
     pub const DATE_PARITY: usize = 58;
-}
-
-const WINTER: i8 = 2;
-
-const SUMMER: i8 = 4;
-
-// The two zones: each has its offset, and its marks 17 and 18 as a number.
-pub(super) fn offset_in(summer: bool) -> LocalMinusUtc
-    ensures { λ r. ⌜ r ≡ record { 0 = offsetIn summer } ⌝ }
-{
-    if summer {
-        return LocalMinusUtc(SUMMER);
-    }
-    LocalMinusUtc(WINTER)
-}
-
-pub(super) fn zone_of(summer: bool) -> u32
-    ensures { λ r. ⌜ r ≡ zoneOf summer ⌝ }
-{
-    if summer {
-        return 1;
-    }
-    2
 }
 
 // The weekday of the reading's date.

@@ -3,6 +3,7 @@ pub mod RingLaws
 pub mod StreamLaws
 pub mod SinceGap
 pub mod MinutesTold
+pub mod RunLaws
 pub mod StandIns
 pub mod Worked
 pub mod Unique

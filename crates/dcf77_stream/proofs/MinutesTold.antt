@@ -34,7 +34,7 @@ unfolding allMarks
 all-marks [] small = refl
 all-marks (x ∷ m) small = rw (lt-ltb x 2 (small 0 (omega arith))) (all-marks m (λ i k. small (suc i) (omega arith)))
 
-marks-gapless : (m : List ℕ) → allMarks m ≡ true → gapless m ≡ true
+pub marks-gapless : (m : List ℕ) → allMarks m ≡ true → gapless m ≡ true
 unfolding allMarks gapless
 marks-gapless [] e = refl
 marks-gapless (x ∷ m) e =
@@ -51,10 +51,10 @@ module _ (r : Reading) (head : ℕ) where
   abbrev pub marksOf : List ℕ
   marksOf = take (lastPlace (dueLong r)) (bytesOf r head)
 
-  marks-length : length marksOf ≡ lastPlace (dueLong r)
+  pub marks-length : length marksOf ≡ lastPlace (dueLong r)
   marks-length = length-take-le (lastPlace (dueLong r)) (bytesOf r head) (omega (arith, length-bytes r head, last-place (dueLong r)))
 
-  marks-are : allMarks marksOf ≡ true
+  pub marks-are : allMarks marksOf ≡ true
   marks-are =
       let l = marks-length in
       all-marks marksOf (λ i h. rw (getD-take (lastPlace (dueLong r)) (bytesOf r head) i 0 (omega arith)) (marks-small r head i (omega arith)))

@@ -13,7 +13,7 @@ use Rattle.wire.proofs.LayoutLaws.{allowedAt, first-bad, printableAt, first-unp
 use Rattle.reading.specs.declared.Reading.{Reading}
 use Rattle.reading.specs.declared.Refusal.{Refusal}
 use Rattle.reading.specs.declared.Fault.{Fault}
-use Rattle.reading.specs.declared.Fault.the-variants.{Byte, OutsideStamps}
+use Rattle.reading.specs.declared.Fault.the-variants.{Byte, OutsideYears}
 use Rattle.reading.specs.declared.Verdict.{Verdict}
 use Rattle.reading.specs.declared.Verdict.the-variants.{Good, Bad}
 use Rattle.reading.specs.declared.Written.the-variants.{Length, No}
@@ -145,10 +145,10 @@ module _ (base : ℕ) (s : List ℕ) (r : Reading) (coasting : Bool) (told : rea
   accepted-checked = rw (← accepted-by base s r coasting told .1) (reading-checked base s facts)
 
   -- so that stamping it "refuses it by 12 alone"
-  pub stamped-or-12 : (x : Refusal) → stampOf base r ≡ Refused x → x ≡ number OutsideStamps
+  pub stamped-or-12 : (x : Refusal) → stampOf base r ≡ Refused x → x ≡ number OutsideYears
   stamped-or-12 x e = go (hasStamp (utcOf r .date .year)) refl
     where
-      go : (b : Bool) → hasStamp (utcOf r .date .year) ≡ b → x ≡ number OutsideStamps
+      go : (b : Bool) → hasStamp (utcOf r .date .year) ≡ b → x ≡ number OutsideYears
       go true h =
           let a = is-stamp base r (stampNumber (utcOf r) (r .second)) (record { checked = accepted-checked; year = h; value = refl }) in
           let z : _≡_ {A = ℕ} 0 1 = cc in

@@ -5,15 +5,14 @@ use mathlib.Core.List.{List}
 use Prim.Native.Nat.{ℕ, _+_, _-_, _%_, _^_, _<_}
 use native.Mathlib.Omega.{arith}
 use native.Mathlib.Decide.{decLt}
-use borrow.Author.Tests.{eqb-false, le-leb}
+use borrow.Author.Tests.{eqb-false}
 use lib.Dec.{T, eqb, eqb→eq}
 use lib.ListN.{length, getD}
 use lib.Seq.{ext-getD}
 use Rattle.laws.specs.Tests.{below}
 use Rattle.laws.proofs.Tested.{at}
-use Rattle.calendar.specs.declared.Date.{Date}
-use Rattle.calendar.specs.Calendar.{leapYear, daysIn, dayOfYear, isMonth, lastDay, isDay, isDate}
-use Rattle.calendar.proofs.DateLaws.{Real, month-of}
+use Rattle.calendar.specs.Calendar.{leapYear, dayOfYear, isDate}
+use Rattle.calendar.proofs.DateLaws.{is-date}
 use Rattle.calendar.proofs.TableLaws.{OnDay, on-day, of-year}
 use Rattle.reading.specs.declared.Reading.{Reading}
 use Rattle.reading.specs.Years.{inHundred}
@@ -32,13 +31,6 @@ use Rattle.irig.proofs.Each.{Each, each, each-at}
 use Rattle.irig.proofs.GroupLaws.{Values}
 use Rattle.irig.proofs.OffsetLaws.{sign-back, halves-back, local-of-amount}
 use Rattle.irig.proofs.FieldLaws.{Digits, Sound}
-
--- a date whose day is one of its month's stands in the calendar
-is-date : (t : Date) → Real t → isDate t ≡ true
-unfolding isDate isMonth isDay lastDay
-is-date t p =
-    let m = month-of t p in
-    rw (le-leb 1 (t .month) (m .0), le-leb (t .month) 12 (m .1), le-leb 1 (t .day) (p .one), le-leb (t .day) (daysIn (leapYear (t .year)) (t .month)) (p .last))
 
 -- the groups from 24 on have no pulses
 no-pulses : T (below (λ k. eqb (getD widths (k + 24) 0) 0) 8)

@@ -12,7 +12,7 @@ use lib.ListN.{length, getD, take, drop}
 use Rattle.reading.specs.declared.Reading.{Reading}
 use Rattle.reading.specs.declared.Verdict.{Verdict}
 use Rattle.reading.specs.declared.Verdict.the-variants.{Good, Bad}
-use Rattle.reading.specs.declared.Fault.the-variants.{OutsideStamps}
+use Rattle.reading.specs.declared.Fault.the-variants.{OutsideYears}
 use Rattle.reading.specs.declared.Stamp.the-variants.{At, Refused}
 use Rattle.reading.specs.declared.Written.the-variants.{Length}
 use Rattle.reading.specs.Faults.{number}
@@ -67,11 +67,11 @@ module _ (base : ℕ) (s : List ℕ) (r : Reading) (e : readFrame base s ≡ Tim
       (w .0 ∙ ap Length (sym long), w .1 ∙ rw (accepted-frame, long))
 
   -- stamping refuses it by 12 alone
-  pub accepted-stamp : (stampOf base r ≡ At (stampNumber (utcOf r) (r .second))) ⊎ (stampOf base r ≡ Refused (number OutsideStamps))
+  pub accepted-stamp : (stampOf base r ≡ At (stampNumber (utcOf r) (r .second))) ⊎ (stampOf base r ≡ Refused (number OutsideYears))
   accepted-stamp = go (hasStamp (utcOf r .date .year)) refl
     where
       go : (b : Bool) → hasStamp (utcOf r .date .year) ≡ b
-          → (stampOf base r ≡ At (stampNumber (utcOf r) (r .second))) ⊎ (stampOf base r ≡ Refused (number OutsideStamps))
+          → (stampOf base r ≡ At (stampNumber (utcOf r) (r .second))) ⊎ (stampOf base r ≡ Refused (number OutsideYears))
       go true y = inl (is-stamp base r (stampNumber (utcOf r) (r .second)) (record { checked = accepted-checked; year = y; value = refl }))
       go false y = inr (refused-by-12 base r accepted-checked y)
 

@@ -9,7 +9,7 @@ use lib.Seq.{take-at}
 use Rattle.reading.specs.declared.Reading.{Reading}
 use Rattle.reading.specs.declared.Fault.{Fault}
 use Rattle.reading.specs.declared.Refusal.{Refusal}
-use Rattle.reading.specs.declared.Fault.the-variants.{OutsideStamps}
+use Rattle.reading.specs.declared.Fault.the-variants.{OutsideYears}
 use Rattle.reading.specs.declared.Verdict.the-variants.{Good, Bad}
 use Rattle.reading.specs.declared.Stamp.the-variants.{Refused}
 use Rattle.reading.specs.Faults.{number}
@@ -128,10 +128,10 @@ module _ (base : ℕ) (s : List ℕ) (r : Reading) (coasting : Bool) (read : rea
   accepted-checked = writable base r textLength (read-writable textLength (omega arith)) .checked
 
   -- so that stamping refuses it by 12 alone
-  pub accepted-stamped : (n : Refusal) → stampOf base r ≡ Refused n → n ≡ number OutsideStamps
+  pub accepted-stamped : (n : Refusal) → stampOf base r ≡ Refused n → n ≡ number OutsideYears
   accepted-stamped n e = go (hasStamp (utcOf r .date .year)) refl
     where
-      go : (b : Bool) → hasStamp (utcOf r .date .year) ≡ b → n ≡ number OutsideStamps
+      go : (b : Bool) → hasStamp (utcOf r .date .year) ≡ b → n ≡ number OutsideYears
       go true h =
           let s = is-stamp base r (stampNumber (utcOf r) (r .second)) (record { checked = accepted-checked; year = h; value = refl }) in
           let z : _≡_ {A = ℕ} 0 1 = cc in

@@ -1,16 +1,17 @@
 -- The leap rule by the firsts of the months: a leap second may close a day exactly where the day after it is the first of a month,
 -- and the minute after it is "00:00 UTC on the first of any month".
 use mathlib.Core.Bool.{Bool, true, false, cond, _&&_}
-use mathlib.Core.Path.{_≡_, refl, sym, _∙_}
-use Prim.Native.Nat.{ℕ, _+_, _-_}
+use mathlib.Core.Path.{_≡_, refl, sym, ap, _∙_}
+use Prim.Native.Nat.{ℕ, _+_, _-_, _<_}
 use native.Mathlib.Omega.{arith}
 use lib.Dec.{eqb, ltb}
 use borrow.Author.Tests.{eq-eqb, ne-eqb, ltb-true, ltb-false}
 use Rattle.calendar.specs.declared.Date.{Date}
-use Rattle.calendar.specs.Calendar.{leapYear, daysIn, yearAfter, dayAfter, dayBefore}
-use Rattle.calendar.proofs.DateLaws.{Real}
+use Rattle.calendar.specs.Calendar.{leapYear, daysIn, dayNumber, yearAfter, dayAfter, dayBefore}
+use Rattle.calendar.proofs.DateLaws.{Real, lastNumber, before-after}
 use Rattle.reading.specs.declared.Utc.{Utc}
-use Rattle.reading.specs.Leap.{closesWithLeap, afterLeap}
+use Rattle.reading.specs.Universal.{day, minuteAfter}
+use Rattle.reading.specs.Leap.{closesWithLeap, lastMinute, leapMinute, afterLeap}
 
 -- a day closes so exactly where the day after it is the first of a month
 pub closes-before-first : (t : Date) → Real t → closesWithLeap t ≡ eqb (dayAfter t .day) 1
@@ -77,3 +78,18 @@ closed-before t p = go (ltb 1 (t .day)) refl
 pub after-leap-first : (u : Utc) → Real (u .date) → afterLeap u ≡ (eqb (u .minute) 0 && eqb (u .date .day) 1)
 unfolding afterLeap
 after-leap-first u p = rw (closed-before (u .date) p)
+
+-- the minute that a leap second may close, and no other, is followed by such a minute
+pub after-leap-minute : (u : Utc) → Real (u .date) → u .minute < day → dayNumber (u .date) < lastNumber → afterLeap (minuteAfter u) ≡ leapMinute u
+unfolding afterLeap leapMinute minuteAfter
+after-leap-minute u p h far = go (ltb (u .minute) (day - 1)) refl
+  where
+    go : (b : Bool) → ltb (u .minute) (day - 1) ≡ b
+        → afterLeap (cond b (record { date = u .date; minute = u .minute + 1 }) (record { date = dayAfter (u .date); minute = 0 }))
+        ≡ (eqb (u .minute) lastMinute && closesWithLeap (u .date))
+    go true e =
+        let k = ltb-true (u .minute) (day - 1) e in
+        rw (ne-eqb (u .minute + 1) 0 (λ q. omega arith), ne-eqb (u .minute) lastMinute (λ q. omega arith))
+    go false e =
+        let k = ltb-false (u .minute) (day - 1) e in
+        rw (eq-eqb (u .minute) lastMinute (omega arith)) (ap closesWithLeap (before-after (u .date) p far))

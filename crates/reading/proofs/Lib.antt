@@ -5,6 +5,7 @@ pub mod LeapLaws
 pub mod CheckLaws
 pub mod RefusalLaws
 pub mod UtcLaws
+pub mod LocalLaws
 pub mod StampLaws
 pub mod StampOrder
 pub mod OneDue

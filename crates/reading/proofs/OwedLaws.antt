@@ -5,7 +5,7 @@ use mathlib.Core.Path.{_≡_, refl}
 use Prim.Native.Nat.{ℕ}
 use Rattle.reading.specs.declared.Reading.{Reading}
 use Rattle.reading.specs.declared.Refusal.{Refusal}
-use Rattle.reading.specs.declared.Fault.the-variants.{OutsideStamps}
+use Rattle.reading.specs.declared.Fault.the-variants.{OutsideYears}
 use Rattle.reading.specs.declared.Verdict.{Verdict}
 use Rattle.reading.specs.declared.Verdict.the-variants.{Good, Bad}
 use Rattle.reading.specs.declared.Stamp.the-variants.{At, Refused}
@@ -29,8 +29,8 @@ written-owed l codes Good n p = p
 written-owed l codes (Bad x) n p = p
 
 stamped-owed : (l : List Objection) (codes : List ℕ) (v : Verdict) (b : Bool) (n : ℕ)
-    → VerdictOwed l codes (andThen v (first (not b) OutsideStamps Good))
-    → StampOwed l codes (unlessBad v (cond b (At n) (Refused (number OutsideStamps))))
+    → VerdictOwed l codes (andThen v (first (not b) OutsideYears Good))
+    → StampOwed l codes (unlessBad v (cond b (At n) (Refused (number OutsideYears))))
 stamped-owed l codes Good true n p = p
 stamped-owed l codes Good false n p = p
 stamped-owed l codes (Bad x) b n p = p
@@ -40,7 +40,7 @@ pub stamp-owed : (base : ℕ) (r : Reading) → StampOwed (stampObjections base 
 unfolding stampOf stampAt stampObjections readingObjections checkObjections
 stamp-owed base r =
     stamped-owed (stampObjections base r) stampCodes (checkedOf base r) (hasStamp (utcOf r .date .year)) (stampNumber (utcOf r) (r .second))
-    (verdict-owed stampCodes (one-then-other (checked-through base r) (judged (not (hasStamp (utcOf r .date .year))) OutsideStamps 12 0 [] Good refl refl none)) refl refl)
+    (verdict-owed stampCodes (one-then-other (checked-through base r) (judged (not (hasStamp (utcOf r .date .year))) OutsideYears 12 0 [] Good refl refl none)) refl refl)
 
 -- which fixes the refusal, at place 0
 pub stamp-one : (base : ℕ) (r : Reading) (x y : Refusal) → Owed (stampObjections base r) stampCodes x → Owed (stampObjections base r) stampCodes y → x ≡ y

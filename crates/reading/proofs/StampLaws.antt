@@ -15,7 +15,7 @@ use Rattle.laws.proofs.Bools.{both}
 use Rattle.reading.specs.declared.Reading.{Reading}
 use Rattle.reading.specs.declared.Utc.{Utc}
 use Rattle.reading.specs.declared.Fault.{Fault}
-use Rattle.reading.specs.declared.Fault.the-variants.{OutsideStamps}
+use Rattle.reading.specs.declared.Fault.the-variants.{OutsideYears}
 use Rattle.reading.specs.declared.Verdict.{Verdict}
 use Rattle.reading.specs.declared.Verdict.the-variants.{Good, Bad}
 use Rattle.reading.specs.declared.Stamp.{Stamp}
@@ -33,7 +33,7 @@ good-verdict : (v : Verdict) (a : Stamp) (n : ℕ) → unlessBad v a ≡ At n �
 good-verdict Good a n e = (refl, e)
 good-verdict (Bad x) a n e = let z : _≡_ {A = ℕ} 0 1 = cc in clash z
 
-stamp-there : (b : Bool) (m n : ℕ) → cond b (At m) (Refused (number OutsideStamps)) ≡ At n → (b ≡ true) × (n ≡ m)
+stamp-there : (b : Bool) (m n : ℕ) → cond b (At m) (Refused (number OutsideYears)) ≡ At n → (b ≡ true) × (n ≡ m)
 stamp-there true m n e = (refl, cc)
 stamp-there false m n e = let z : _≡_ {A = ℕ} 0 1 = cc in clash z
 
@@ -54,7 +54,7 @@ unfolding stampOf stampAt
 is-stamp base r v p = rw (p .checked, p .year, p .value)
 
 -- a reading that passes the shared checks is refused by 12 alone
-pub refused-by-12 : (base : ℕ) (r : Reading) → checkedOf base r ≡ Good → hasStamp (utcOf r .date .year) ≡ false → stampOf base r ≡ Refused (number OutsideStamps)
+pub refused-by-12 : (base : ℕ) (r : Reading) → checkedOf base r ≡ Good → hasStamp (utcOf r .date .year) ≡ false → stampOf base r ≡ Refused (number OutsideYears)
 unfolding stampOf stampAt
 refused-by-12 base r e h = rw (e, h)
 

@@ -22,6 +22,12 @@ use Rattle.reading.proofs.years.year_of.Kinds as year-of-kinds
 use Rattle.reading.proofs.years.year_of.Reads as year-of-reads
 use Rattle.reading.proofs.universal.utc_of.Kinds as utc-of-kinds
 use Rattle.reading.proofs.universal.utc_of.Reads as utc-of-reads
+use Rattle.reading.proofs.universal.minute_after.Kinds as minute-after-kinds
+use Rattle.reading.proofs.universal.minute_after.Reads as minute-after-reads
+use Rattle.reading.proofs.universal.local_at.Kinds as local-at-kinds
+use Rattle.reading.proofs.universal.local_at.Reads as local-at-reads
+use Rattle.reading.proofs.leap.closes_with_leap.Kinds as closes-with-leap-kinds
+use Rattle.reading.proofs.leap.closes_with_leap.Reads as closes-with-leap-reads
 use Rattle.reading.proofs.leap.leap_minute.Kinds as leap-minute-kinds
 use Rattle.reading.proofs.leap.leap_minute.Reads as leap-minute-reads
 use Rattle.reading.proofs.leap.leap_window.Kinds as leap-window-kinds
@@ -84,6 +90,15 @@ year-of-one κs a x y e f p q = cc
 
 pub utc-of-one : Coincide 0 utc-of-kinds.ps utc-of-kinds.r utc-of-reads.Post
 utc-of-one κs a x y e f p q = cc
+
+pub minute-after-one : Coincide 0 minute-after-kinds.ps minute-after-kinds.r minute-after-reads.Post
+minute-after-one κs a x y e f p q = cc
+
+pub local-at-one : Coincide 0 local-at-kinds.ps local-at-kinds.r local-at-reads.Post
+local-at-one κs a x y e f p q = cc
+
+pub closes-with-leap-one : Coincide 0 closes-with-leap-kinds.ps closes-with-leap-kinds.r closes-with-leap-reads.Post
+closes-with-leap-one κs a x y e f p q = cc
 
 pub leap-minute-one : Coincide 0 leap-minute-kinds.ps leap-minute-kinds.r leap-minute-reads.Post
 leap-minute-one κs a x y e f p q = cc

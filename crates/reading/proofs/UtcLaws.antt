@@ -13,6 +13,7 @@ use Rattle.calendar.proofs.YearLaws.{year-later}
 use Rattle.calendar.proofs.DateLaws.{Real, real, number-is, lastNumber, before-last, day-after-is, day-before-is}
 use Rattle.reading.specs.declared.Reading.{Reading}
 use Rattle.reading.specs.declared.Utc.{Utc}
+use Rattle.reading.specs.Years.{base}
 use Rattle.reading.specs.Offset.{unit, west, east}
 use Rattle.reading.specs.Universal.{day, utcMinutes, onDay, dateOf, utcOf}
 use Rattle.reading.proofs.YearLaws.{hundred}
@@ -43,7 +44,24 @@ on-day-is t n p a b h = before (ltb n day) refl
         record { real = f .0; minute = k; minutes = omega (arith, f .1) }
     before false e = after (ltb n (2 * day)) refl (ltb-false n day e)
 
-minutes-is : (h m : ℕ) (z : ℤ) → utcMinutes h m z ≡ day + h * 60 + m + unit * west z - unit * east z
+-- no more minutes of its day than were counted
+pub on-day-small : (t : Date) (n top : ℕ) → n ≤ top → onDay t n .minute ≤ top
+unfolding onDay
+on-day-small t n top h = before (ltb n day)
+  where
+    after : (c : Bool) → cond {A = Utc} c (record { date = t; minute = n - day }) (record { date = dayAfter t; minute = n - 2 * day }) .minute ≤ top
+    after true = omega arith
+    after false = omega arith
+
+    before : (c : Bool)
+        → cond {A = Utc} c (record { date = dayBefore t; minute = n })
+        (cond (ltb n (2 * day)) (record { date = t; minute = n - day }) (record { date = dayAfter t; minute = n - 2 * day }))
+        .minute
+        ≤ top
+    before true = h
+    before false = after (ltb n (2 * day))
+
+pub minutes-is : (h m : ℕ) (z : ℤ) → utcMinutes h m z ≡ day + h * 60 + m + unit * west z - unit * east z
 unfolding utcMinutes
 minutes-is h m z = refl
 
@@ -55,6 +73,9 @@ old-enough t p h = omega (arith, p .one, number-is t, year-later 0 (t .year) h, 
 pub record Base (b : ℕ) : Type 0 where
   pub from : 1 ≤ b
   pub to : b + 100 ≤ lastYear
+
+pub base-fine : Base base
+base-fine = record { from = omega arith; to = omega arith }
 
 -- "UTC is local time less the offset": the same count of minutes, from the start of the year 0
 pub record Universal (r : Reading) : Type 0 where

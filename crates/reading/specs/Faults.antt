@@ -17,7 +17,8 @@ use Rattle.reading.specs.declared.Fault.the-variants.{
   LeapSecond,
   Deletion,
   NotCarried,
-  OutsideStamps,
+  OutsideYears,
+  SummerRule,
   CutShort,
   UnknownKind,
 }
@@ -25,7 +26,8 @@ use Rattle.reading.specs.declared.Verdict.{Verdict}
 use Rattle.reading.specs.declared.Verdict.the-variants.{Bad}
 
 -- the table of refusal numbers; by L5 what was 5 is "15 for a time field, 16 for a date field, a weekday out of range or a day that
--- month lacks, 17 for quality or head"
+-- month lacks, 17 for quality or head"; by L8 18 is for a rule of summer time, and 12 also for "a named minute whose UTC or local year is
+-- outside 2000..2099"
 abbrev pub codeOf : Fault → ℕ
 codeOf Length = 1
 codeOf (Byte place) = 2
@@ -40,7 +42,8 @@ codeOf (Offset place) = 8
 codeOf (LeapSecond place) = 9
 codeOf (Deletion place) = 10
 codeOf NotCarried = 11
-codeOf OutsideStamps = 12
+codeOf OutsideYears = 12
+codeOf SummerRule = 18
 codeOf CutShort = 13
 codeOf UnknownKind = 14
 
@@ -61,7 +64,8 @@ placeOf (Offset place) = place
 placeOf (LeapSecond place) = place
 placeOf (Deletion place) = place
 placeOf NotCarried = 0
-placeOf OutsideStamps = 0
+placeOf OutsideYears = 0
+placeOf SummerRule = 0
 placeOf CutShort = 0
 placeOf UnknownKind = 0
 

@@ -6,7 +6,7 @@ use Rattle.calendar.specs.declared.Date.{Date}
 use Rattle.calendar.specs.Calendar.{dayNumber}
 use Rattle.reading.specs.declared.Reading.{Reading}
 use Rattle.reading.specs.declared.Utc.{Utc}
-use Rattle.reading.specs.declared.Fault.the-variants.{OutsideStamps}
+use Rattle.reading.specs.declared.Fault.the-variants.{OutsideYears}
 use Rattle.reading.specs.declared.Verdict.{Verdict}
 use Rattle.reading.specs.declared.Verdict.the-variants.{Good, Bad}
 use Rattle.reading.specs.declared.Stamp.{Stamp}
@@ -28,7 +28,7 @@ unfoldable pub stampNumber : Utc → ℕ → ℕ
 stampNumber u s = (dayNumber (u .date) - dayNumber dayZero) * 86401 + (u .minute * 60 + s)
 
 unfoldable pub stampAt : Utc → ℕ → Stamp
-stampAt u s = cond (hasStamp (u .date .year)) (At (stampNumber u s)) (Refused (number OutsideStamps))
+stampAt u s = cond (hasStamp (u .date .year)) (At (stampNumber u s)) (Refused (number OutsideYears))
 
 abbrev pub unlessBad : Verdict → Stamp → Stamp
 unlessBad Good a = a

@@ -1,6 +1,6 @@
--- Local time to UTC: the day and the minute of the day.
-use mathlib.Core.Bool.{cond}
-use Prim.Native.Nat.{ℕ, _+_, _-_, _*_}
+-- Local time to UTC and back: the day and the minute of the day.
+use mathlib.Core.Bool.{cond, false}
+use Prim.Native.Nat.{ℕ, _+_, _-_, _*_, _/_, _%_}
 use lib.Dec.{ltb}
 use lib.IntN.{ℤ}
 use Rattle.calendar.specs.declared.Date.{Date}
@@ -28,3 +28,39 @@ dateOf r = record { year = r .year; month = r .month; day = r .day }
 
 unfoldable pub utcOf : Reading → Utc
 utcOf r = onDay (dateOf r) (utcMinutes (r .hour) (r .minute) (r .offset .0))
+
+-- ---- from one UTC minute to the next, and to local time
+
+-- the minute after: the next one of the day, else the first of the day after
+unfoldable pub minuteAfter : Utc → Utc
+minuteAfter u =
+    cond (ltb (u .minute) (day - 1)) (record { date = u .date; minute = u .minute + 1 }) (record { date = dayAfter (u .date); minute = 0 })
+
+-- a minute that no day has counts as its last
+unfoldable pub withinDay : ℕ → ℕ
+withinDay m = cond (ltb m day) m (day - 1)
+
+-- local time is UTC and the offset; in minutes from the start of the day before the UTC day
+unfoldable pub localMinutes : ℕ → ℤ → ℕ
+localMinutes m z = day + withinDay m + unit * east z - unit * west z
+
+-- what a clock with this offset shows at the start of a minute of its own day: nothing announced, and quality 0
+unfoldable pub shownAt : Utc → ℤ → Reading
+shownAt local z =
+    record {
+      year = local .date .year;
+      month = local .date .month;
+      day = local .date .day;
+      hour = local .minute / 60;
+      minute = local .minute % 60;
+      second = 0;
+      offset = record { 0 = z };
+      summer = false;
+      leap = false;
+      change = false;
+      quality = 0;
+    }
+
+-- what it shows at the start of a minute of UTC
+unfoldable pub localAt : Utc → ℤ → Reading
+localAt u z = shownAt (onDay (u .date) (localMinutes (u .minute) z)) z

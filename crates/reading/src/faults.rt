@@ -24,7 +24,8 @@ fn code_of(fault: Fault) -> u8
         Fault::LeapSecond(_) => 9,
         Fault::Deletion(_) => 10,
         Fault::NotCarried => 11,
-        Fault::OutsideStamps => 12,
+        Fault::OutsideYears => 12,
+        Fault::SummerRule => 18,
         Fault::CutShort => 13,
         Fault::UnknownKind => 14,
     }
@@ -47,7 +48,8 @@ fn place_of(fault: Fault) -> usize
         Fault::LeapSecond(place) => place,
         Fault::Deletion(place) => place,
         Fault::NotCarried => 0,
-        Fault::OutsideStamps => 0,
+        Fault::OutsideYears => 0,
+        Fault::SummerRule => 0,
         Fault::CutShort => 0,
         Fault::UnknownKind => 0,
     }

@@ -10,7 +10,7 @@ ghost use Rattle.reading.specs.Leap.{closesWithLeap, leapMinute, withinM
 // 23:59.
 const LAST_MINUTE: u16 = 1439;
 
-fn closes_with_leap(date: Date) -> bool
+pub fn closes_with_leap(date: Date) -> bool
     ensures { λ r. ⌜ r ≡ closesWithLeap date ⌝ }
 {
     date.day == days_in(is_leap(date.year), date.month)

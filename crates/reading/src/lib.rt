@@ -53,7 +53,8 @@ pub enum Fault {
     LeapSecond(usize),
     Deletion(usize),
     NotCarried,
-    OutsideStamps,
+    OutsideYears,
+    SummerRule,
     CutShort,
     UnknownKind,
 }

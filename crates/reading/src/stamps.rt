@@ -51,7 +51,7 @@ fn stamp_at(utc: Utc, second: u8) -> Stamp
     if has_stamp(date.year) {
         return Stamp::At(stamp_number(utc, second));
     }
-    Stamp::Refused(refusal_of(Fault::OutsideStamps))
+    Stamp::Refused(refusal_of(Fault::OutsideYears))
 }
 
 pub fn stamp_of(r: Reading) -> Stamp

@@ -1,4 +1,4 @@
-// Local time to UTC.
+// Local time to UTC and back.
 use super::LocalMinusUtc;
 use super::Reading;
 use super::Utc;
@@ -8,7 +8,7 @@ use calendar::neighbours::day_after;
 use calendar::neighbours::day_before;
 ghost use mathlib.Core.Path.{_≡_};
 ghost use Prim.Native.Nat.{_-_, _≤_};
-ghost use Rattle.reading.specs.Universal.{utcMinutes, onDay, utcOf};
+ghost use Rattle.reading.specs.Universal.{utcMinutes, onDay, utcOf, minuteAfter, withinDay, localMinutes, shownAt, localAt};
 
 const DAY: u16 = 1440;
 
@@ -63,4 +63,72 @@ pub fn utc_of(r: Reading) -> Utc
         day: r.day,
     };
     on_day(date, utc_minutes(r.hour, r.minute, r.offset))
+}
+
+// The minute after a minute of UTC.
+pub fn minute_after(utc: Utc) -> Utc
+    ensures { λ u. ⌜ u ≡ minuteAfter utc ⌝ }
+{
+    let date = utc.date;
+    if utc.minute < DAY - 1 {
+        return Utc {
+            date,
+            minute: utc.minute + 1,
+        };
+    }
+    let after = day_after(date);
+    Utc {
+        date: after,
+        minute: 0,
+    }
+}
+
+// A minute that no day has counts as its last.
+fn within_day(minute: u16) -> u16
+    ensures { λ r. ⌜ r ≡ withinDay minute ⌝ }
+    ensures { λ r. ⌜ r ≤ 1439 ⌝ }
+{
+    if minute < DAY {
+        return minute;
+    }
+    DAY - 1
+}
+
+fn local_minutes(minute: u16, offset: LocalMinusUtc) -> u16
+    ensures { λ r. ⌜ r ≡ localMinutes minute (offset .0) ⌝ }
+    ensures { λ r. ⌜ r ≤ 6689 ⌝ }
+{
+    let utc = DAY + within_day(minute);
+    let ahead = UNIT * offset.east();
+    let behind = UNIT * offset.west();
+    less(utc + ahead, behind)
+}
+
+// What a clock shows at a minute of its own day.
+fn shown_at(local: Utc, offset: LocalMinusUtc) -> Reading
+    requires { ⌜ local .minute ≤ 6689 ⌝ }
+    ensures { λ r. ⌜ r ≡ shownAt local (offset .0) ⌝ }
+{
+    let date = local.date;
+    Reading {
+        year: date.year,
+        month: date.month,
+        day: date.day,
+        hour: (local.minute / 60) as u8,
+        minute: (local.minute % 60) as u8,
+        second: 0,
+        offset,
+        summer: false,
+        leap: false,
+        change: false,
+        quality: 0,
+    }
+}
+
+// What a clock of this offset shows at the start of a minute of UTC: nothing announced, and locked.
+pub fn local_at(utc: Utc, offset: LocalMinusUtc) -> Reading
+    ensures { λ r. ⌜ r ≡ localAt utc (offset .0) ⌝ }
+{
+    let date = utc.date;
+    shown_at(on_day(date, local_minutes(utc.minute, offset)), offset)
 }

@@ -5,7 +5,7 @@ ghost use Rattle.reading.specs.Years.{base, inHundred, yearOf};
 // The first of the hundred years of a reading.
 const BASE: u16 = 2000;
 
-pub(crate) fn in_hundred(year: u16) -> bool
+pub fn in_hundred(year: u16) -> bool
     ensures { λ r. ⌜ r ≡ inHundred base year ⌝ }
 {
     (BASE <= year) & (year < BASE + 100)

@@ -15,6 +15,15 @@ unfolding newestOf owedTo
 newest-owed owed h [] = ap owed (sym (append-nil h))
 newest-owed owed h (p ∷ ps) = newest-owed owed (h ++ (p ∷ [])) ps ∙ ap owed (append-assoc h (p ∷ []) ps)
 
+-- what is owed to some pulses and then to others
+pub owed-append : {A : Type 0} (owed : List ℕ → A) (h ps qs : List ℕ) → owedTo owed h (ps ++ qs) ≡ owedTo owed h ps ++ owedTo owed (h ++ ps) qs
+unfolding owedTo
+owed-append owed h [] qs = ap (λ (g : List ℕ). owedTo owed g qs) (sym (append-nil h))
+owed-append owed h (p ∷ ps) qs =
+    ap (λ (l : List _). owed (h ++ (p ∷ [])) ∷ l)
+    (owed-append owed (h ++ (p ∷ [])) ps qs
+    ∙ ap (λ (g : List ℕ). owedTo owed (h ++ (p ∷ [])) ps ++ owedTo owed g qs) (append-assoc h (p ∷ []) ps))
+
 -- ---- any step function that gives what it has to give, run pulse by pulse
 
 module _ {S R A : Type 0} (reader : R → S) (said : R → A) (step gives : S → ℕ → R) (meets : (s : S) (p : ℕ) → step s p ≡ gives s p) where

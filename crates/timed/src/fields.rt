@@ -7,7 +7,7 @@ ghost use lib.ListN.{length};
 // The bytes before the position part.
 pub(crate) const LENGTH: usize = 15;
 
-fn two(low: u8, high: u8) -> u16 {
+pub(crate) fn two(low: u8, high: u8) -> u16 {
     (low as u16) + 256 * (high as u16)
 }
 

@@ -5,6 +5,7 @@ mod answers;
 mod fields;
 mod pulses;
 mod records;
+mod sent;
 mod writers;
 
 fn run(op: u8, size: u8, records: &[u8], page: &mut [u8]) -> u64 {

@@ -1,5 +1,6 @@
-// Reading each record, or bridging it.
+// Reading each record, bridging it, or sending what it says.
 use super::answers;
+use super::sent;
 use bridge::Kind;
 use bridge::bridge;
 use dcf77::Dcf77;
@@ -21,6 +22,7 @@ fn once(op: u8, given: &[u8], page: &mut [u8]) -> u64 {
         4 => answers::of_minute(Dcf77::read(given)),
         13 => bridged(Kind::Meinberg, given, page),
         14 => bridged(Kind::Erlangen, given, page),
+        15 => sent::written(given, page),
         _ => given.len() as u64,
     }
 }

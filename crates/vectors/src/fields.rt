@@ -14,7 +14,7 @@ pub(crate) fn byte(payload: &[u8], at: usize) -> u8
     0
 }
 
-fn flag(payload: &[u8], at: usize) -> bool
+pub(crate) fn flag(payload: &[u8], at: usize) -> bool
     ensures { λ r. ⌜ r ≡ flagAt (now (payload .entry)) at ⌝ }
 {
     byte(payload, at) != 0

@@ -12,6 +12,7 @@ mod fields;
 mod listed;
 mod print;
 mod readers;
+mod sent;
 mod stamped;
 mod table;
 mod writers;

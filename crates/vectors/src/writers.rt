@@ -1,10 +1,13 @@
-// What the writers and the bridge answer, and the whole lent buffer afterwards.
+// What the writers, the bridge and the sender answer, and the whole lent buffer afterwards.
 use super::fields::byte;
 use super::fields::pair;
 use super::fields::reading_in;
 use super::print::print_hex;
 use super::print::print_number;
 use super::print::print_word;
+use super::sent::leap_in;
+use super::sent::rule_in;
+use super::sent::sent_in;
 use super::stamped::print_refused;
 use bridge::Kind;
 use bridge::bridge;
@@ -13,6 +16,7 @@ use erlangen::Erlangen;
 use irig::Ieee1344;
 use meinberg::Meinberg;
 use reading::Written;
+use telegram::Sender;
 
 // What stands behind the first bytes of a payload.
 fn behind(payload: &[u8], first: usize) -> &[u8] {
@@ -41,26 +45,40 @@ fn write_by(op: u8, payload: &[u8], buffer: &mut [u8]) -> Written {
     }
 }
 
-// 10 is the bridge: a kind, 1 Meinberg or 2 Uni Erlangen, the room and the string.
+// A telegram, from what a plant configures, the minute that is being sent and a head.
+fn send(payload: &[u8], buffer: &mut [u8]) -> Written {
+    let sender = Sender {
+        rule: rule_in(payload),
+        leap: leap_in(payload),
+    };
+    sender.write(sent_in(payload), pair(payload, 17), buffer)
+}
+
+// 10 is the bridge: a kind, 1 Meinberg or 2 Uni Erlangen, the room and the string; 15 is a telegram.
 fn write_all_by(op: u8, payload: &[u8], buffer: &mut [u8]) -> Written {
-    if op == 10 {
-        return bridge(kind_of(payload), behind(payload, 2), buffer);
+    match op {
+        10 => bridge(kind_of(payload), behind(payload, 2), buffer),
+        15 => send(payload, buffer),
+        _ => write_by(op, payload, buffer),
     }
-    write_by(op, payload, buffer)
 }
 
 // Where a payload says how many bytes are lent.
 fn room_in(op: u8, payload: &[u8]) -> u8 {
-    if op == 10 {
-        return byte(payload, 1);
+    match op {
+        10 => byte(payload, 1),
+        15 => byte(payload, 19),
+        _ => byte(payload, 14),
     }
-    byte(payload, 14)
 }
 
 fn is_whole(op: u8, payload: &[u8]) -> bool {
     if op == 10 {
         let kind = byte(payload, 0);
         return (2 <= payload.len()) & (1 <= kind) & (kind <= 2);
+    }
+    if op == 15 {
+        return 20 <= payload.len();
     }
     15 <= payload.len()
 }

@@ -1,12 +1,13 @@
 -- "Cases 1 to 10 are proved of the written definitions by a single statement over a list of them." The same statement holds of
--- a second list, which pins codes, letters and pulses that the cases leave open, of a third of month ends, and of a fourth of places.
+-- a second list, which pins codes, letters and pulses that the cases leave open, of a third of month ends, of a fourth of places, and of
+-- a fifth of telegrams.
 use mathlib.Core.List.{List, map}
 use mathlib.Core.Path.{_≡_, refl}
 use Rattle.calendar.specs.Calendar.{leapYear, daysIn, daysBefore, yearLength, daysBeforeYear, dayOfYear, dayNumber, weekdayOf, isMonth, lastDay, isDay, isDate, dayBefore, dayAfter, yearAfter, monthUpTo, inYear, monthDay}
 use Rattle.reading.specs.Faults.{number}
 use Rattle.reading.specs.Offset.{west, east, offsetGood, localOf}
 use Rattle.reading.specs.Years.{inHundred, yearOf}
-use Rattle.reading.specs.Universal.{utcMinutes, onDay, utcOf}
+use Rattle.reading.specs.Universal.{utcMinutes, onDay, utcOf, minuteAfter, withinDay, localMinutes, shownAt, localAt}
 use Rattle.reading.specs.Leap.{closesWithLeap, leapMinute, sixtyBad, withinMinute, leapWindow, changeWindow, afterLeap}
 use Rattle.reading.specs.Checks.{timeBad, dateBad, checkedOf, dayBad, monthBad, weekdayWrong}
 use Rattle.reading.specs.Stamps.{hasStamp, stampNumber, stampAt, stampOf}
@@ -32,6 +33,10 @@ use Rattle.dcf77.specs.Forms as forms
 use Rattle.dcf77.specs.Reader as minute
 use Rattle.dcf77.specs.Writer as minute-writing
 use Rattle.bridge.specs.Bridge.{pendingOf, readString, bridgeAnswer, bridgeFilled}
+use Rattle.summer.specs.Changes.{daysUntil, changeDate, changed, isSummer, hourBefore, announcesChange}
+use Rattle.summer.specs.Rules as rules
+use Rattle.telegram.specs.Telegram.{utcSent, namedMinute, namedSummer, sameDate, announcesLeap, telegramReading}
+use Rattle.telegram.specs.Faults as sending
 use Rattle.text.specs.Decimal.{digitsBefore, decimal}
 use Rattle.book.specs.Body.{bodyLength, readBody}
 use Rattle.book.specs.Book.{recordAt, nextAt, recordsFrom}
@@ -42,13 +47,14 @@ use Rattle.worked.specs.Cases.{cases}
 use Rattle.worked.specs.Pinned.{pinned}
 use Rattle.worked.specs.MonthEnds.{monthEnds}
 use Rattle.worked.specs.Places.{places}
+use Rattle.worked.specs.Telegrams.{telegrams}
 
 -- each question of the list is answered as the paper answers it
 abbrev pub AsPaper : List Case → Type 0
 AsPaper l = map (λ (c : Case). answerTo (c .asked)) l ≡ map (λ (c : Case). c .answer) l
 
-pub worked : AsPaper cases × AsPaper pinned × AsPaper monthEnds × AsPaper places
-unfolding cases pinned monthEnds places withOnes turned answerTo
+pub worked : AsPaper cases × AsPaper pinned × AsPaper monthEnds × AsPaper places × AsPaper telegrams
+unfolding cases pinned monthEnds places telegrams withOnes turned answerTo
     stampOf stampAt stampNumber hasStamp checkedOf timeBad dateBad sixtyBad leapMinute closesWithLeap afterLeap withinMinute leapWindow changeWindow
     utcOf onDay utcMinutes inHundred yearOf west east offsetGood localOf number
     leapYear daysIn daysBefore yearLength daysBeforeYear dayOfYear dayNumber weekdayOf
@@ -77,5 +83,10 @@ unfolding cases pinned monthEnds places withOnes turned answerTo
     minute-writing.headBad minute-writing.checkedWith minute-writing.notCarried minute-writing.carryFault
     minute-writing.needed minute-writing.roomFault minute-writing.writeFault
     pendingOf readString bridgeAnswer bridgeFilled
+    minuteAfter withinDay localMinutes shownAt localAt
+    daysUntil changeDate changed isSummer hourBefore announcesChange
+    rules.weekdayBad rules.dateBad rules.tooLate rules.setDayBad rules.dayIn rules.crossed rules.ruleBad
+    utcSent namedMinute namedSummer sameDate announcesLeap telegramReading
+    sending.timeBad sending.dateBad sending.leapDateBad sending.outside sending.faultWith sending.sendFault sending.telegramFault
     bodyLength readBody recordAt nextAt recordsFrom decimal digitsBefore lineAt linesOf bodyText listing
-worked = (refl, refl, refl, refl)
+worked = (refl, refl, refl, refl, refl)

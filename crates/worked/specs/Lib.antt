@@ -4,3 +4,4 @@ pub mod Cases
 pub mod Pinned
 pub mod MonthEnds
 pub mod Places
+pub mod Telegrams

@@ -1,5 +1,5 @@
 -- What a worked case asks, and what the written definitions answer: those that the contracts of readers, writers, stamping, the
--- bridge and the listing cite.
+-- bridge, the sender and the listing cite.
 use mathlib.Core.Bool.{Bool}
 use mathlib.Core.List.{List}
 use Prim.Native.Nat.{ℕ}
@@ -34,6 +34,12 @@ use Rattle.dcf77.specs.Reader.{readDcf77}
 use Rattle.dcf77.specs.Writer.{bytesOf as minuteBytes, writeFault as minuteFault}
 use Rattle.bridge.specs.declared.Kind.{Kind}
 use Rattle.bridge.specs.Bridge.{bridgeAnswer, bridgeFilled}
+use Rattle.summer.specs.declared.SetDay.{SetDay}
+use Rattle.summer.specs.Changes.{changeDate}
+use Rattle.telegram.specs.declared.Sent.{Sent}
+use Rattle.telegram.specs.declared.Sender.{Sender}
+use Rattle.telegram.specs.Telegram.{telegramReading}
+use Rattle.telegram.specs.Faults.{telegramFault}
 use Rattle.listing.specs.Listing.{listing}
 
 pub data Question : Type 0 where
@@ -55,11 +61,16 @@ pub data Question : Type 0 where
   toMarks : Reading → ℕ → List ℕ → Question
   -- what the bridge does with a string of a kind and a lent buffer
   bridged : Kind → List ℕ → List ℕ → Question
+  -- the day of a year that a set day of a rule stands for
+  changeOn : SetDay → ℕ → Question
+  -- what a sender does with a minute that is being sent, a head and a lent buffer
+  telegram : Sender → Sent → ℕ → List ℕ → Question
   -- the listing of a book
   listed : List ℕ → Question
 
 pub data Answer : Type 0 where
   day : ℕ → Answer
+  date : ℕ → ℕ → ℕ → Answer
   stamped : ℕ → Answer
   -- a reading, alone or with the coasting mark or the head beside it
   told : Reading → Answer
@@ -74,6 +85,9 @@ pub data Answer : Type 0 where
   text : List ℕ → Answer
 
 -- ---- the answers of the crates, one by one
+
+abbrev pub ofDate : Date → Answer
+ofDate t = date (t .year) (t .month) (t .day)
 
 abbrev pub ofStamp : Stamp → Answer
 ofStamp (At v) = stamped v
@@ -120,6 +134,10 @@ answerTo (toErlangen r coasting position out) =
 answerTo (toPulses r out) = afterWriting (frameFault base r (length out)) frameLength (frameOf r) out
 answerTo (toMarks r head out) = afterWriting (minuteFault base r head (length out)) (lengthOf (dueLong r)) (minuteBytes r head) out
 answerTo (bridged kind s out) = ofWritten (bridgeAnswer base kind s (length out)) (bridgeFilled base kind s out)
+answerTo (changeOn s y) = ofDate (changeDate s y)
+answerTo (telegram sender sent head out) =
+    afterWriting (telegramFault base sender sent head (length out)) (lengthOf (dueLong (telegramReading sender sent)))
+    (minuteBytes (telegramReading sender sent) head) out
 answerTo (listed b) = text (listing base b)
 
 pub record Case : Type 0 where

@@ -6,7 +6,7 @@ use Prim.Native.Nat.{ℕ}
 use Rattle.reading.specs.declared.Utc.{Utc}
 use Rattle.reading.specs.declared.Refusal.{Refusal}
 use Rattle.reading.specs.declared.Stamp.the-variants.{At, Refused}
-use Rattle.reading.specs.declared.Fault.the-variants.{OutsideStamps}
+use Rattle.reading.specs.declared.Fault.the-variants.{OutsideYears}
 use Rattle.reading.specs.Faults.{number}
 use Rattle.reading.specs.Stamps.{hasStamp, stampNumber, stampAt}
 use Rattle.reading.proofs.stamps.stamp_at.Statement.{statement}
@@ -17,7 +17,7 @@ module _ (u : Utc) (s : ℕ) where
   unfolding stampAt
   stamped n e h = rw (h, e)
 
-  outside : (r : Refusal) → r ≡ number OutsideStamps → hasStamp (u .date .year) ≡ false → Refused r ≡ stampAt u s
+  outside : (r : Refusal) → r ≡ number OutsideYears → hasStamp (u .date .year) ≡ false → Refused r ≡ stampAt u s
   unfolding stampAt
   outside r e h = rw (h, e)
 

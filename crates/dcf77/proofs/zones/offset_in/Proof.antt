@@ -1,7 +1,7 @@
--- `dcf77::rules::offset_in` meets its contract. Assumes nothing.
+-- `dcf77::zones::offset_in` meets its contract. Assumes nothing.
 use Rattle.dcf77.specs.Zones.{offsetIn}
-use Rattle.dcf77.proofs.rules.offset_in.Statement.{statement}
-use Rattle.dcf77.proofs.rules.offset_in.Tie as tie
+use Rattle.dcf77.proofs.zones.offset_in.Statement.{statement}
+use Rattle.dcf77.proofs.zones.offset_in.Tie as tie
 
 returns : tie.Need-returns
 unfolding offsetIn

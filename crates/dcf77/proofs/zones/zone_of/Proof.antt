@@ -1,7 +1,7 @@
--- `dcf77::rules::zone_of` meets its contract. Assumes nothing.
+-- `dcf77::zones::zone_of` meets its contract. Assumes nothing.
 use Rattle.dcf77.specs.Zones.{zoneOf}
-use Rattle.dcf77.proofs.rules.zone_of.Statement.{statement}
-use Rattle.dcf77.proofs.rules.zone_of.Tie as tie
+use Rattle.dcf77.proofs.zones.zone_of.Statement.{statement}
+use Rattle.dcf77.proofs.zones.zone_of.Tie as tie
 
 returns : tie.Need-returns
 unfolding zoneOf

@@ -1,0 +1,5 @@
+pub mod SentLaws
+pub mod TelegramLaws
+pub mod OwedLaws
+pub mod StandIns
+pub mod Unique

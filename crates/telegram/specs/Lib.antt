@@ -1,0 +1,3 @@
+pub mod Telegram
+pub mod Faults
+pub mod Objections
