@@ -144,7 +144,7 @@ def sent_of(number, rule):
 
 
 def telegram_asked(number, room=ROOM, at=None):
-    """A record that a telegram is made from, with room for it; a leap second is configured in two of three."""
+    """A record that a telegram is made from, with room for it; a leap second is configured in five of seven."""
     rule = rule_of(number)
     drawn, last = sent_of(number, rule)
     asked = case_parts.Asked(*rule.begin, *rule.end, 0, 0, 0, 0, 0, 0, 0, 0, 0, beside_of("DCF77", number), room)

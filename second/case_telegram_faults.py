@@ -104,7 +104,7 @@ def dates() -> Iterator[bytes]:
 
 def both_ends() -> Iterator[bytes]:
     """The first and the last minutes that can be named, by rules whose summer ends on 31 December
-    2099 and on 24 October; a leap second configured then or not."""
+    2099 and on 25 October; a leap second configured then or not."""
     minutes = [datetime(2099, 12, 31, 0, 58), datetime(2099, 12, 31, 0, 59),
                datetime(2099, 12, 31, 1, 0), datetime(2099, 12, 31, 21, 59),
                *(datetime(2099, 12, 31, 22, minute) for minute in (57, 58, 59)),

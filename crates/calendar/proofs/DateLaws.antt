@@ -12,7 +12,7 @@ use borrow.Author.Tests.{le-leb, lt-ltb, leb-true, ltb-true, ltb-false}
 use Rattle.laws.proofs.Bools.{both}
 use Rattle.calendar.specs.declared.Date.{Date}
 use Rattle.calendar.specs.Order.{Earlier}
-use Rattle.calendar.specs.Calendar.{leapYear, daysIn, daysBefore, yearLength, daysBeforeYear, dayOfYear, dayNumber, isMonth, lastDay, isDay, isDate, lastYear, yearAfter, dayAfter, dayBefore, dateAfter}
+use Rattle.calendar.specs.Calendar.{leapYear, daysIn, daysBefore, daysBeforeYear, dayOfYear, dayNumber, isMonth, lastDay, isDay, isDate, lastYear, yearAfter, dayAfter, dayBefore, dateAfter}
 use Rattle.calendar.proofs.MonthLaws.{before-next, before-first, year-whole, month-later, month-top, month-low, month-ends, month-has-days, year-least}
 use Rattle.calendar.proofs.YearLaws.{year-next, year-later}
 

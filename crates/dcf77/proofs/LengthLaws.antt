@@ -89,6 +89,11 @@ module _ (long : Bool) (room : ℕ) where
   unfolding roomFault needed lengthOf
   room-own x k = rw (le-ltb room shortLength k)
 
+-- and too few for what is good and long
+pub room-all : roomFault Good true shortLength ≡ Bad Length
+unfolding roomFault needed lengthOf
+room-all = refl
+
 module _ (base : ℕ) (r : Reading) (h : ℕ) where
   -- fewer than 60 bytes are too few for anything
   pub too-few-bytes : (room : ℕ) → room < shortLength → writeFault base r h room ≡ Bad Length
@@ -102,5 +107,5 @@ module _ (base : ℕ) (r : Reading) (h : ℕ) where
 
   -- and too few for a long minute that is accepted
   pub long-needs-all : carryFault base r h ≡ Good → dueLong r ≡ true → writeFault base r h shortLength ≡ Bad Length
-  unfolding writeFault roomFault needed lengthOf
-  long-needs-all e k = rw (e, k)
+  unfolding writeFault
+  long-needs-all e k = rw (e, k) room-all

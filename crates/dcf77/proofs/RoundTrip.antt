@@ -23,7 +23,7 @@ use Rattle.reading.specs.Writing.{writtenOf, filled}
 use Rattle.reading.proofs.CheckLaws.{clash}
 use Rattle.reading.proofs.StampLaws.{is-stamp, refused-by-12}
 use Rattle.pulses.specs.Row.{row}
-use Rattle.dcf77_table.specs.Table.{head, minuteMarks}
+use Rattle.dcf77_table.specs.Table.{minuteMarks}
 use Rattle.dcf77_table.proofs.ValueLaws.{said-proper, row-said}
 use Rattle.dcf77.specs.declared.Answer.the-variants.{Time}
 use Rattle.dcf77.specs.Forms.{lengthOf, dueLong}

@@ -19,6 +19,9 @@ impl Dcf77 {
     pub const LONG_LENGTH: usize = 61;
 
     pub const LONG_LAST: usize = 60;
+
+    // The largest head: fifteen marks.
+    pub const LAST_HEAD: u16 = 32767;
 }
 
 // What the reader answers: the time with its head, or why there is none.

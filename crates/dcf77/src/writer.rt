@@ -32,8 +32,6 @@ ghost use Rattle.dcf77_table.specs.Table.{minuteMarks};
 ghost use Rattle.dcf77.specs.Forms.{lengthOf, dueLong};
 ghost use Rattle.dcf77.specs.Writer.{plainOf, evened, withParity, valuesOf, bytesOf, checkedWith, notCarried, carryFault, isGood, needed, roomFault, writeFault};
 
-const LAST_HEAD: u16 = 32767;
-
 // What each group says, in the order of the groups, with the parity marks left 0.
 fn plain_values(r: Reading, head: u16) -> [u32; 32]
     ensures { λ v. ⌜ v ≡ plainOf r head ⌝ }
@@ -105,7 +103,7 @@ fn checked_with(r: Reading, head: u16) -> Verdict
     first_fault(
         time_bad(r),
         date_bad(r),
-        quality_bad(r.quality) | (LAST_HEAD < head),
+        quality_bad(r.quality) | (Dcf77::LAST_HEAD < head),
         !offset.is_good(),
         leap_second_bad(r),
     )

@@ -1,17 +1,16 @@
 -- From a minute of UTC to the one after it, and to local time and back.
 use mathlib.Core.Bool.{Bool, true, false, cond}
 use mathlib.Core.Path.{_≡_, refl}
-use Prim.Native.Nat.{ℕ, suc, _+_, _-_, _*_, _/_, _%_, _≤_, _<_}
+use Prim.Native.Nat.{suc, _+_, _-_, _*_, _/_, _%_, _≤_, _<_}
 use native.Mathlib.Omega.{arith}
 use lib.Dec.{ltb}
 use lib.IntN.{ℤ}
 use borrow.Author.Tests.{lt-ltb, ltb-true, ltb-false}
 use Rattle.calendar.specs.declared.Date.{Date}
-use Rattle.calendar.specs.Calendar.{leapYear, yearLength, daysBeforeYear, dayNumber, lastYear, dayAfter}
+use Rattle.calendar.specs.Calendar.{leapYear, dayNumber, lastYear, dayAfter}
 use Rattle.calendar.proofs.MonthLaws.{year-least}
 use Rattle.calendar.proofs.YearLaws.{year-later}
 use Rattle.calendar.proofs.DateLaws.{Real, number-is, number-top, lastNumber, same-number, day-after-is}
-use Rattle.reading.specs.declared.Reading.{Reading}
 use Rattle.reading.specs.declared.Utc.{Utc}
 use Rattle.reading.specs.Offset.{unit, west, east, offsetGood}
 use Rattle.reading.specs.Universal.{day, onDay, utcMinutes, dateOf, utcOf, minuteAfter, withinDay, localMinutes, shownAt, localAt}

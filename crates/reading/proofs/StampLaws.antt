@@ -1,15 +1,15 @@
 -- The stamp: what an answer tells, when there is one, and by which codes alone it is refused.
-use mathlib.Core.Bool.{Bool, true, false, cond, not, _&&_, _||_}
-use mathlib.Core.Logic.{_⊎_, inl, inr, ⊎-elim}
+use mathlib.Core.Bool.{Bool, true, false, cond}
+use mathlib.Core.Logic.{_⊎_, inl, inr}
 use mathlib.Core.Path.{_≡_, refl, ap, _∙_}
 use Prim.Native.Nat.{ℕ, suc, _+_, _-_, _*_, _≤_, _<_}
 use native.Mathlib.Omega.{arith}
 use native.Mathlib.Decide.{ℕ-discrete}
 use lib.Dec.{leb, eqb}
-use borrow.Author.Tests.{leb-true, eq-eqb, ne-eqb, eqb-true, not-false}
+use borrow.Author.Tests.{leb-true, eq-eqb, eqb-true, not-false}
 use Rattle.calendar.specs.Calendar.{leapYear, daysBeforeYear, yearLength, dayNumber}
 use Rattle.calendar.proofs.DateLaws.{Real, number-is, number-top}
-use Rattle.calendar.proofs.YearLaws.{year-next, year-later}
+use Rattle.calendar.proofs.YearLaws.{year-later}
 use Rattle.calendar.proofs.WeekdayLaws.{start-number}
 use Rattle.laws.proofs.Bools.{both}
 use Rattle.reading.specs.declared.Reading.{Reading}
@@ -25,8 +25,8 @@ use Rattle.reading.specs.Universal.{day, utcOf}
 use Rattle.reading.specs.Leap.{lastMinute, closesWithLeap, leapMinute, sixtyBad}
 use Rattle.reading.specs.Checks.{checkedOf}
 use Rattle.reading.specs.Stamps.{dayZero, hasStamp, stampNumber, stampAt, unlessBad, stampOf}
-use Rattle.reading.proofs.CheckLaws.{Checked, checked-is, clash}
-use Rattle.reading.proofs.UtcLaws.{Base, Universal, universal}
+use Rattle.reading.proofs.CheckLaws.{checked-is, clash}
+use Rattle.reading.proofs.UtcLaws.{Base, universal}
 
 -- a stamp is there exactly where the checks pass and UTC is in the years that have stamps
 good-verdict : (v : Verdict) (a : Stamp) (n : ℕ) → unlessBad v a ≡ At n → (v ≡ Good) × (a ≡ At n)

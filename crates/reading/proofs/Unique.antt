@@ -48,6 +48,8 @@ use Rattle.reading.proofs.checks.checked.Kinds as checked-kinds
 use Rattle.reading.proofs.checks.checked.Reads as checked-reads
 use Rattle.reading.proofs.checks.time_bad.Kinds as time-bad-kinds
 use Rattle.reading.proofs.checks.time_bad.Reads as time-bad-reads
+use Rattle.reading.proofs.checks.no_day.Kinds as no-day-kinds
+use Rattle.reading.proofs.checks.no_day.Reads as no-day-reads
 use Rattle.reading.proofs.checks.date_bad.Kinds as date-bad-kinds
 use Rattle.reading.proofs.checks.date_bad.Reads as date-bad-reads
 use Rattle.reading.proofs.checks.quality_bad.Kinds as quality-bad-kinds
@@ -129,6 +131,9 @@ checked-one κs a x y e f p q = cc
 
 pub time-bad-one : Coincide 0 time-bad-kinds.ps time-bad-kinds.r time-bad-reads.Post
 time-bad-one κs a x y e f p q = cc
+
+pub no-day-one : Coincide 0 no-day-kinds.ps no-day-kinds.r no-day-reads.Post
+no-day-one κs a x y e f p q = cc
 
 pub date-bad-one : Coincide 0 date-bad-kinds.ps date-bad-kinds.r date-bad-reads.Post
 date-bad-one κs a x y e f p q = cc

@@ -1,13 +1,13 @@
 -- UTC, counted in minutes, is local time less the offset, and its date stands in the calendar.
 use mathlib.Core.Bool.{Bool, true, false, cond}
-use mathlib.Core.Path.{_≡_, refl, ap}
-use Prim.Native.Nat.{ℕ, suc, _+_, _-_, _*_, _≤_, _<_}
+use mathlib.Core.Path.{_≡_, refl}
+use Prim.Native.Nat.{ℕ, _+_, _-_, _*_, _≤_, _<_}
 use native.Mathlib.Omega.{arith}
 use lib.Dec.{ltb}
 use lib.IntN.{ℤ}
 use borrow.Author.Tests.{ltb-true, ltb-false}
 use Rattle.calendar.specs.declared.Date.{Date}
-use Rattle.calendar.specs.Calendar.{leapYear, yearLength, daysBeforeYear, dayNumber, lastYear, dayAfter, dayBefore}
+use Rattle.calendar.specs.Calendar.{leapYear, dayNumber, lastYear, dayAfter, dayBefore}
 use Rattle.calendar.proofs.MonthLaws.{year-least}
 use Rattle.calendar.proofs.YearLaws.{year-later}
 use Rattle.calendar.proofs.DateLaws.{Real, real, number-is, lastNumber, before-last, day-after-is, day-before-is}

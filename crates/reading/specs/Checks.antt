@@ -2,9 +2,10 @@
 use mathlib.Core.Bool.{Bool, not, _&&_, _||_}
 use Prim.Native.Nat.{ℕ}
 use lib.Dec.{eqb, ltb}
+use Rattle.calendar.specs.declared.Date.{Date}
 use Rattle.calendar.specs.Calendar.{leapYear, weekdayOf, isMonth, isDay, isDate}
 use Rattle.reading.specs.declared.Reading.{Reading}
-use Rattle.reading.specs.declared.Fault.the-variants.{Time, Date, QualityOrHead, Offset, LeapSecond}
+use Rattle.reading.specs.declared.Fault.the-variants.{Time, Date as BadDate, QualityOrHead, Offset, LeapSecond}
 use Rattle.reading.specs.declared.Verdict.{Verdict}
 use Rattle.reading.specs.declared.Verdict.the-variants.{Good}
 use Rattle.reading.specs.Faults.{first}
@@ -25,8 +26,12 @@ secondBad s = ltb 60 s
 unfoldable pub timeBad : Reading → Bool
 timeBad r = hourBad (r .hour) || (minuteBad (r .minute) || secondBad (r .second))
 
+-- no day of the hundred years that start with a base year
+abbrev pub noDay : ℕ → Date → Bool
+noDay base t = not (inHundred base (t .year) && isDate t)
+
 unfoldable pub dateBad : ℕ → Reading → Bool
-dateBad base r = not (inHundred base (r .year) && isDate (dateOf r))
+dateBad base r = noDay base (dateOf r)
 
 abbrev pub qualityBad : ℕ → Bool
 qualityBad q = ltb 15 q
@@ -34,7 +39,7 @@ qualityBad q = ltb 15 q
 -- the fault whose code comes first; "Writers keep place 0"
 abbrev pub firstFault : Bool → Bool → Bool → Bool → Bool → Verdict
 firstFault time date quality offset sixty =
-    first time (Time 0) (first date (Date 0) (first quality (QualityOrHead 0) (first offset (Offset 0) (first sixty (LeapSecond 0) Good))))
+    first time (Time 0) (first date (BadDate 0) (first quality (QualityOrHead 0) (first offset (Offset 0) (first sixty (LeapSecond 0) Good))))
 
 -- the first fault of a reading whose year is one of the hundred from a base year on
 unfoldable pub checkedOf : ℕ → Reading → Verdict

@@ -44,15 +44,15 @@ withinDay m = cond (ltb m day) m (day - 1)
 unfoldable pub localMinutes : ℕ → ℤ → ℕ
 localMinutes m z = day + withinDay m + unit * east z - unit * west z
 
--- what a clock with this offset shows at the start of a minute of its own day: nothing announced, and quality 0
-unfoldable pub shownAt : Utc → ℤ → Reading
-shownAt local z =
+-- what a clock with this offset shows at the start of a minute of its own day: no flag is set, also not that of summer, and quality is 0
+unfoldable pub shownAt : Date → ℕ → ℤ → Reading
+shownAt t m z =
     record {
-      year = local .date .year;
-      month = local .date .month;
-      day = local .date .day;
-      hour = local .minute / 60;
-      minute = local .minute % 60;
+      year = t .year;
+      month = t .month;
+      day = t .day;
+      hour = m / 60;
+      minute = m % 60;
       second = 0;
       offset = record { 0 = z };
       summer = false;
@@ -61,6 +61,6 @@ shownAt local z =
       quality = 0;
     }
 
--- what it shows at the start of a minute of UTC
+-- what it shows at the start of a minute of UTC, on the day before, the day itself or the day after
 unfoldable pub localAt : Utc → ℤ → Reading
-localAt u z = shownAt (onDay (u .date) (localMinutes (u .minute) z)) z
+localAt u z = let local = onDay (u .date) (localMinutes (u .minute) z) in shownAt (local .date) (local .minute) z

@@ -14,7 +14,7 @@ ghost use mathlib.Core.Path.{_≡_};
 ghost use Rattle.reading.specs.Years.{base};
 ghost use Rattle.reading.specs.Universal.{utcOf};
 ghost use Rattle.reading.specs.Leap.{sixtyBad};
-ghost use Rattle.reading.specs.Checks.{hourBad, minuteBad, secondBad, timeBad, dateBad, qualityBad, checkedOf, firstFault, dayBad, weekdayWrong};
+ghost use Rattle.reading.specs.Checks.{hourBad, minuteBad, secondBad, timeBad, noDay, dateBad, qualityBad, checkedOf, firstFault, dayBad, weekdayWrong};
 
 pub fn hour_bad(hour: u8) -> bool
     ensures { λ r. ⌜ r ≡ hourBad hour ⌝ }
@@ -40,6 +40,13 @@ pub fn time_bad(r: Reading) -> bool
     hour_bad(r.hour) | (minute_bad(r.minute) | second_bad(r.second))
 }
 
+// No day of the hundred years of a reading.
+pub fn no_day(date: Date) -> bool
+    ensures { λ b. ⌜ b ≡ noDay base date ⌝ }
+{
+    !(in_hundred(date.year) & is_date(date))
+}
+
 pub fn date_bad(r: Reading) -> bool
     ensures { λ b. ⌜ b ≡ dateBad base r ⌝ }
 {
@@ -48,7 +55,7 @@ pub fn date_bad(r: Reading) -> bool
         month: r.month,
         day: r.day,
     };
-    !(in_hundred(r.year) & is_date(date))
+    no_day(date)
 }
 
 pub fn quality_bad(quality: u8) -> bool

@@ -65,7 +65,6 @@ pub fn utc_of(r: Reading) -> Utc
     on_day(date, utc_minutes(r.hour, r.minute, r.offset))
 }
 
-// The minute after a minute of UTC.
 pub fn minute_after(utc: Utc) -> Utc
     ensures { λ u. ⌜ u ≡ minuteAfter utc ⌝ }
 {
@@ -94,6 +93,7 @@ fn within_day(minute: u16) -> u16
     DAY - 1
 }
 
+// At most two days less a minute, and the largest offset that there is, 127 units.
 fn local_minutes(minute: u16, offset: LocalMinusUtc) -> u16
     ensures { λ r. ⌜ r ≡ localMinutes minute (offset .0) ⌝ }
     ensures { λ r. ⌜ r ≤ 6689 ⌝ }
@@ -104,18 +104,17 @@ fn local_minutes(minute: u16, offset: LocalMinusUtc) -> u16
     less(utc + ahead, behind)
 }
 
-// What a clock shows at a minute of its own day.
-fn shown_at(local: Utc, offset: LocalMinusUtc) -> Reading
-    requires { ⌜ local .minute ≤ 6689 ⌝ }
-    ensures { λ r. ⌜ r ≡ shownAt local (offset .0) ⌝ }
+// What a clock shows at a minute of its own day. The bound is that of `local_minutes`, under which an hour has room.
+fn shown_at(date: Date, minute: u16, offset: LocalMinusUtc) -> Reading
+    requires { ⌜ minute ≤ 6689 ⌝ }
+    ensures { λ r. ⌜ r ≡ shownAt date minute (offset .0) ⌝ }
 {
-    let date = local.date;
     Reading {
         year: date.year,
         month: date.month,
         day: date.day,
-        hour: (local.minute / 60) as u8,
-        minute: (local.minute % 60) as u8,
+        hour: (minute / 60) as u8,
+        minute: (minute % 60) as u8,
         second: 0,
         offset,
         summer: false,
@@ -125,10 +124,12 @@ fn shown_at(local: Utc, offset: LocalMinusUtc) -> Reading
     }
 }
 
-// What a clock of this offset shows at the start of a minute of UTC: nothing announced, and locked.
+// What a clock of this offset shows at the start of a minute of UTC: no flag is set, also not that of summer.
 pub fn local_at(utc: Utc, offset: LocalMinusUtc) -> Reading
     ensures { λ r. ⌜ r ≡ localAt utc (offset .0) ⌝ }
 {
     let date = utc.date;
-    shown_at(on_day(date, local_minutes(utc.minute, offset)), offset)
+    let local = on_day(date, local_minutes(utc.minute, offset));
+    let day = local.date;
+    shown_at(day, local.minute, offset)
 }

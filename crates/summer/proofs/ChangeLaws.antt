@@ -1,22 +1,23 @@
 -- The rule is a calendar's: the day found is the first of its weekday at or after the set date, both days of a rule that is not refused
 -- stand in their year, the start before the end, and summer lies between these two minutes of UTC.
-use mathlib.Core.Bool.{Bool, true, false, not, _&&_}
+use mathlib.Core.Bool.{Bool, true, false, not, _&&_, _||_}
+use mathlib.Core.Logic.{_⊎_, inl, inr, ⊎-elim}
 use mathlib.Core.Path.{_≡_, refl, sym, ap, _∙_}
 use Prim.Native.Nat.{ℕ, _+_, _-_, _*_, _%_, _≤_, _<_}
 use native.Mathlib.Omega.{arith}
 use lib.Dec.{eqb, leb, ltb}
 use borrow.Author.Tests.{le-leb, lt-leb, lt-ltb, eq-eqb, leb-true, leb-false, ltb-true, eqb-true}
-use Rattle.laws.proofs.Bools.{both}
+use Rattle.laws.proofs.Bools.{both, either}
 use Rattle.calendar.specs.declared.Date.{Date}
 use Rattle.calendar.specs.Calendar.{leapYear, yearLength, daysBeforeYear, dayOfYear, dayNumber, weekdayOf, inYear, monthDay}
 use Rattle.calendar.proofs.DateLaws.{Real, number-is, same-number}
-use Rattle.calendar.proofs.WeekdayLaws.{weekday-is, weekday-range}
+use Rattle.calendar.proofs.WeekdayLaws.{weekday-is}
 use Rattle.calendar.proofs.TableLaws.{OnDay, on-day, of-year}
 use Rattle.summer.specs.declared.SetDay.{SetDay}
 use Rattle.summer.specs.declared.SummerRule.{SummerRule}
-use Rattle.summer.specs.Changes.{setDate, daysUntil, changeDay, changeDate, day, changeMinute, changed, isSummer, hourBefore}
-use Rattle.summer.specs.Rules.{dayIn, ruleBad}
-use Rattle.summer.proofs.RuleLaws.{GoodDay, set-real, six-more, GoodRule, good-rule, day-in-year}
+use Rattle.summer.specs.Changes.{setDate, daysUntil, changeDay, changeDate, day, changeMinute, changed, isSummer, hourBefore, announcesChange}
+use Rattle.summer.specs.Rules.{ruleBad}
+use Rattle.summer.proofs.RuleLaws.{GoodDay, six-more, GoodRule, good-rule, day-in-year}
 
 -- ---- the first day at or after a date that falls on a weekday
 
@@ -87,7 +88,7 @@ module _ (s : SetDay) (y : ℕ) (g : GoodDay s) where
       }
 
 -- the hour before a change is 00:00 to 00:59 UTC of the day found, and of no other
-pub announced-day : (s : SetDay) (t : Date) (m : ℕ) → GoodDay s → Real t → hourBefore s t m ≡ true → (t ≡ changeDate s (t .year)) × (m < changeMinute)
+announced-day : (s : SetDay) (t : Date) (m : ℕ) → GoodDay s → Real t → hourBefore s t m ≡ true → (t ≡ changeDate s (t .year)) × (m < changeMinute)
 unfolding hourBefore
 announced-day s t m g p e =
     let y = t .year in
@@ -98,13 +99,10 @@ announced-day s t m g p e =
       ltb-true m changeMinute (q .1),
     )
 
-pub day-announced : (s : SetDay) (y m : ℕ) → GoodDay s → m < changeMinute → hourBefore s (changeDate s y) m ≡ true
+day-announced : (s : SetDay) (t : Date) (m : ℕ) → GoodDay s → t ≡ changeDate s (t .year) → m < changeMinute → hourBefore s t m ≡ true
 unfolding hourBefore
-day-announced s y m g h =
-    rw (
-      eq-eqb (dayOfYear (changeDate s y)) (changeDay s (changeDate s y .year)) (change-day-of s y g ∙ ap (changeDay s) (sym (change-year s y g))),
-      lt-ltb m changeMinute h,
-    )
+day-announced s t m g e h =
+    rw (eq-eqb (dayOfYear t) (changeDay s (t .year)) (ap dayOfYear e ∙ change-day-of s (t .year) g), lt-ltb m changeMinute h)
 
 -- ---- both days of a rule that is not refused stand in every year, the start before the end
 
@@ -158,3 +156,30 @@ unfolding isSummer
 summer-between rule t m good =
     let g = good-rule rule good in
     rw (changed-counted (rule .start) t m (g .start), changed-counted (rule .end) t m (g .end))
+
+-- ---- a change is announced in the hour before it, and in no other
+
+-- one of the two days of change of its year
+abbrev pub OnChangeDay : SummerRule → Date → Type 0
+OnChangeDay rule t = (t ≡ changeDate (rule .start) (t .year)) ⊎ (t ≡ changeDate (rule .end) (t .year))
+
+-- from 00:00 to 00:59 UTC of these days, and of no other date
+pub announced-exactly : (rule : SummerRule) (t : Date) (m : ℕ) → ruleBad rule ≡ false → Real t
+    → (announcesChange rule t m ≡ true → OnChangeDay rule t × (m < changeMinute))
+    × (OnChangeDay rule t × (m < changeMinute) → announcesChange rule t m ≡ true)
+unfolding announcesChange
+announced-exactly rule t m good p = (
+  λ e. ⊎-elim (λ h. let a = announced-day (rule .start) t m (g .start) p h in (inl (a .0), a .1))
+      (λ h. let a = announced-day (rule .end) t m (g .end) p h in (inr (a .0), a .1))
+      (either (hourBefore (rule .start) t m) (hourBefore (rule .end) t m) e),
+  λ e. ⊎-elim (λ d. rw (day-announced (rule .start) t m (g .start) d (e .1)))
+      (λ d. rw (day-announced (rule .end) t m (g .end) d (e .1)) (or-true (hourBefore (rule .start) t m)))
+      (e .0),
+)
+  where
+    g : GoodRule rule
+    g = good-rule rule good
+
+    or-true : (b : Bool) → (b || true) ≡ true
+    or-true true = refl
+    or-true false = refl

@@ -1,11 +1,11 @@
 -- What a rule that is not refused is: each of its set dates stands in every year, at least six days before its end, and in every year
 -- the latest start is before the earliest end.
-use mathlib.Core.Bool.{Bool, true, false, not, _&&_, _||_}
+use mathlib.Core.Bool.{Bool, true, false, _&&_, _||_}
 use mathlib.Core.Path.{_≡_, ap}
 use Prim.Native.Nat.{ℕ, _+_, _≤_, _<_}
 use native.Mathlib.Decide.{ℕ-discrete}
 use native.Mathlib.Omega.{arith}
-use lib.Dec.{T, eqb, leb, leb→le, ltb}
+use lib.Dec.{T, leb, leb→le}
 use borrow.Author.Tests.{leb-true, leb-false, ltb-false, eq-eqb, not-false}
 use Rattle.laws.specs.Tests.{below}
 use Rattle.laws.proofs.Tested.{at}
@@ -47,7 +47,7 @@ early-good : (m d : ℕ) → tooLate m d ≡ false → m ≡ 12 → d ≤ 25
 unfolding tooLate
 early-good m d e k = ltb-false 25 d (rw (eq-eqb m 12 k) at e)
 
-good-day : (s : SetDay) → setDayBad s ≡ false → GoodDay s
+pub good-day : (s : SetDay) → setDayBad s ≡ false → GoodDay s
 unfolding setDayBad
 good-day s e =
     let a = neither (weekdayBad (s .weekday)) (dateBad (s .month) (s .day) || tooLate (s .month) (s .day)) e in

@@ -25,7 +25,7 @@ fn days_until(date: Date, named: u8) -> u16
     ((named as u16) + WEEK - from) % WEEK
 }
 
-// The day of a year that a set day stands for, counted in the year.
+// The day of a year that a set day stands for, counted in the year; no month and day give more than 621.
 fn change_day(set: SetDay, year: u16) -> u16
     ensures { λ r. ⌜ r ≡ changeDay set year ⌝ }
     ensures { λ r. ⌜ r ≤ 627 ⌝ }
@@ -47,19 +47,21 @@ fn changed(set: SetDay, date: Date, minute: u16) -> bool
     at <= now
 }
 
+// A minute of UTC is compared with the changes of its own year, in which both lie.
 pub fn is_summer(rule: SummerRule, date: Date, minute: u16) -> bool
     ensures { λ r. ⌜ r ≡ isSummer rule date minute ⌝ }
 {
     changed(rule.start, date, minute) & !changed(rule.end, date, minute)
 }
 
-// Whether a minute lies in the hour before a change.
+// The change comes at 01:00, so that the hour before it is the first of its day.
 fn hour_before(set: SetDay, date: Date, minute: u16) -> bool
     ensures { λ r. ⌜ r ≡ hourBefore set date minute ⌝ }
 {
     (day_of_year(date) == change_day(set, date.year)) & (minute < CHANGE_MINUTE)
 }
 
+// Of the minute that is being sent, not of the one that it names.
 pub fn announces_change(rule: SummerRule, date: Date, minute: u16) -> bool
     ensures { λ r. ⌜ r ≡ announcesChange rule date minute ⌝ }
 {

@@ -59,6 +59,7 @@ fn crossed(year: u16, rule: SummerRule) -> bool
     day_in(year, rule.end) <= day_in(year, rule.start) + 6
 }
 
+// What is left has both of its days in every year, the start before the end.
 pub fn rule_bad(rule: SummerRule) -> bool
     ensures { λ r. ⌜ r ≡ ruleBad rule ⌝ }
 {

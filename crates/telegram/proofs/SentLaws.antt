@@ -1,23 +1,22 @@
 -- A minute that is not refused: what its checks tell, the UTC of the minute that it names, and the form that is due.
-use mathlib.Core.Bool.{Bool, true, false, not, _&&_, _||_, and-false}
-use mathlib.Core.Path.{_≡_, refl, sym, ap, subst, _∙_}
+use mathlib.Core.Bool.{Bool, true, false, not, _&&_, and-false}
+use mathlib.Core.Path.{_≡_, refl, sym, ap, _∙_}
 use Prim.Native.Nat.{ℕ, _+_, _*_, _≤_, _<_}
 use native.Mathlib.Omega.{arith}
 use lib.Dec.{eqb, leb}
 use lib.IntN.{ℤ}
-use borrow.Author.Tests.{ltb-false, eqb-true, eq-eqb, le-leb, leb-true, not-false}
+use borrow.Author.Tests.{ltb-false, eqb-true, le-leb, not-false}
 use Rattle.laws.proofs.Bools.{both, neither}
 use Rattle.calendar.specs.declared.Date.{Date}
-use Rattle.calendar.specs.Calendar.{dayNumber, lastYear, isDate}
+use Rattle.calendar.specs.Calendar.{dayNumber, isDate}
 use Rattle.calendar.proofs.DateLaws.{Real, real, is-date, lastNumber, before-last}
-use Rattle.reading.specs.declared.Reading.{Reading}
 use Rattle.reading.specs.declared.Utc.{Utc}
 use Rattle.reading.specs.declared.Verdict.the-variants.{Good}
-use Rattle.reading.specs.Offset.{west, east, offsetGood}
+use Rattle.reading.specs.Offset.{offsetGood}
 use Rattle.reading.specs.Universal.{day, dateOf, utcOf, minuteAfter, localAt, shownAt}
 use Rattle.reading.specs.Years.{inHundred}
 use Rattle.reading.specs.Leap.{lastMinute, closesWithLeap, leapMinute, afterLeap, sixtyBad}
-use Rattle.reading.specs.Checks.{hourBad, minuteBad}
+use Rattle.reading.specs.Checks.{hourBad, minuteBad, noDay}
 use Rattle.reading.proofs.YearLaws.{hundred}
 use Rattle.reading.proofs.CheckLaws.{first-good, is-checked}
 use Rattle.reading.proofs.UtcLaws.{Base}
@@ -34,7 +33,7 @@ use Rattle.telegram.specs.declared.Sender.{Sender}
 use Rattle.telegram.specs.declared.LeapSecond.{LeapSecond}
 use Rattle.telegram.specs.declared.LeapSecond.the-variants.{None, Closes}
 use Rattle.telegram.specs.Telegram.{utcSent, namedMinute, namedSummer, sameDate, lastHour, announcesLeap, closedMinute, telegramReading}
-use Rattle.telegram.specs.Faults.{timeBad, dateBad, leapDateBad, outside, faultWith, sendFault}
+use Rattle.telegram.specs.Faults.{timeBad, leapDateBad, outside, faultWith, sendFault}
 
 -- ---- what the checks tell
 
@@ -55,8 +54,7 @@ time-good sent e =
     let p = neither (hourBad (sent .hour)) (minuteBad (sent .minute)) e in
     (ltb-false 23 (sent .hour) (p .0), ltb-false 59 (sent .minute) (p .1))
 
-date-good : (base : ℕ) (t : Date) → dateBad base t ≡ false → (inHundred base (t .year) ≡ true) × (isDate t ≡ true)
-unfolding dateBad
+date-good : (base : ℕ) (t : Date) → noDay base t ≡ false → (inHundred base (t .year) ≡ true) × (isDate t ≡ true)
 date-good base t e = both (inHundred base (t .year)) (isDate t) (not-false (inHundred base (t .year) && isDate t) e)
 
 head-good : (head : ℕ) → headBad head ≡ false → head ≤ 32767
@@ -72,7 +70,7 @@ unfolding sendFault faultWith
 fit base sender sent head e =
     let a = first-good (ruleBad (sender .rule)) _ _ e in
     let b = first-good (timeBad sent) _ _ (a .1) in
-    let c = first-good (dateBad base (sent .date)) _ _ (b .1) in
+    let c = first-good (noDay base (sent .date)) _ _ (b .1) in
     let d = first-good (headBad head) _ _ (c .1) in
     let f = first-good (leapDateBad base (sender .leap)) _ _ (d .1) in
     let g = first-good (outside base (namedMinute sent .date .year) (telegramReading sender sent .year)) _ _ (f .1) in
@@ -96,10 +94,6 @@ fit base sender sent head e =
 utc-minute : (sent : Sent) → utcSent sent .minute ≡ sent .hour * 60 + sent .minute
 unfolding utcSent
 utc-minute sent = refl
-
-utc-date : (sent : Sent) → utcSent sent .date ≡ sent .date
-unfolding utcSent
-utc-date sent = refl
 
 -- the reading of the named minute, as far as UTC goes
 same-utc : (sender : Sender) (sent : Sent) → utcOf (telegramReading sender sent) ≡ utcOf (localAt (namedMinute sent) (offsetIn (namedSummer sender sent)))
@@ -145,7 +139,7 @@ closed t d m c = go (sameDate t d) refl (eqb m lastMinute) refl
 configured : (base : ℕ) (leap : LeapSecond) (u : Utc) → leapDateBad base leap ≡ false → (announcesLeap leap u && leapMinute u) ≡ closedMinute leap u
 unfolding announcesLeap closedMinute leapDateBad leapMinute
 configured base None u e = refl
-configured base (Closes t) u e = closed t (u .date) (u .minute) (not-false (closesWithLeap t) (neither (dateBad base t) (not (closesWithLeap t)) e .1))
+configured base (Closes t) u e = closed t (u .date) (u .minute) (not-false (closesWithLeap t) (neither (noDay base t) (not (closesWithLeap t)) e .1))
 
 module _ (base : ℕ) (b : Base base) (sender : Sender) (sent : Sent) (head : ℕ) (p : Fit base sender sent head) where
   sent-real : Real (utcSent sent .date)

@@ -7,16 +7,14 @@ use native.Mathlib.Omega.{arith}
 use lib.ListN.{length, take, replicate}
 use Rattle.calendar.specs.Calendar.{leapYear, daysIn, daysBefore, yearLength, daysBeforeYear, dayOfYear, dayNumber, weekdayOf, isMonth, lastDay, isDay, isDate}
 use Rattle.reading.specs.declared.Reading.{Reading}
-use Rattle.reading.specs.declared.Fault.the-variants.{Byte}
 use Rattle.reading.specs.declared.Written.the-variants.{Length}
-use Rattle.reading.specs.Faults.{number}
 use Rattle.reading.specs.Offset.{west, east}
 use Rattle.reading.specs.Years.{base, inHundred}
 use Rattle.reading.specs.Universal.{onDay, minuteAfter, withinDay, localMinutes, shownAt, localAt}
 use Rattle.reading.specs.Writing.{writtenOf, filled}
 use Rattle.reading.proofs.CheckLaws.{clash}
 use Rattle.reading.proofs.UtcLaws.{base-fine}
-use Rattle.dcf77.specs.declared.Answer.the-variants.{Time, No}
+use Rattle.dcf77.specs.declared.Answer.the-variants.{Time}
 use Rattle.dcf77.specs.Zones.{offsetIn}
 use Rattle.dcf77.specs.Forms.{lengthOf, dueLong}
 use Rattle.dcf77.specs.Reader.{readDcf77}
@@ -28,7 +26,7 @@ use Rattle.telegram.specs.declared.Sent.{Sent}
 use Rattle.telegram.specs.declared.Sender.{Sender}
 use Rattle.telegram.specs.declared.LeapSecond.the-variants.{None}
 use Rattle.telegram.specs.Telegram.{utcSent, namedMinute, namedSummer, announcesLeap, telegramReading}
-use Rattle.telegram.specs.Faults.{timeBad, dateBad as sentDateBad, leapDateBad, outside, faultWith, sendFault, telegramFault}
+use Rattle.telegram.specs.Faults.{timeBad, leapDateBad, outside, faultWith, sendFault, telegramFault}
 use Rattle.telegram.proofs.TelegramLaws.{telegram-reads}
 
 -- from the first Sunday at or after 25 March to the first at or after 25 October, and no leap second
@@ -55,7 +53,7 @@ abbrev pub after : Sender → Sent → ℕ → List ℕ → List ℕ
 after sender sent head out = filled (telegramFault base sender sent head (length out)) (bytesOf (telegramReading sender sent) head) out
 
 accepted : Wrote plant (noon 0) 0 blank 60 × Wrote plant (noon 1) 0 blank 60
-unfolding telegramFault roomFault needed sendFault faultWith headBad timeBad sentDateBad leapDateBad outside inHundred
+unfolding telegramFault roomFault needed sendFault faultWith headBad timeBad leapDateBad outside inHundred
     ruleBad setDayBad weekdayBad dateBad tooLate crossed dayIn
     telegramReading namedSummer namedMinute utcSent announcesLeap minuteAfter localAt shownAt localMinutes withinDay onDay west east offsetIn
     isSummer changed announcesChange hourBefore daysUntil dueLong lengthOf

@@ -1,29 +1,27 @@
 -- Every telegram that is not refused is a minute of DCF77 that reads back, for any base year: the promises, over the definitions that the
 -- contract of `Sender::write` cites.
-use mathlib.Core.Bool.{Bool, true, false, not, _&&_}
+use mathlib.Core.Bool.{Bool, true, not, _&&_}
 use mathlib.Core.List.{List}
 use mathlib.Core.Path.{_≡_, refl, sym, ap, _∙_}
-use Prim.Native.Nat.{ℕ, _+_, _*_, _≤_}
-use native.Mathlib.Omega.{arith}
-use borrow.Author.Tests.{ltb-false}
+use Prim.Native.Nat.{ℕ, _≤_, _<_}
 use lib.Dec.{leb, ltb}
 use lib.ListN.{length, take}
-use Rattle.calendar.specs.Calendar.{dayNumber}
-use Rattle.reading.specs.declared.Utc.{Utc}
 use Rattle.reading.specs.declared.Refusal.{Refusal}
+use Rattle.reading.specs.declared.Fault.{Fault}
 use Rattle.reading.specs.declared.Fault.the-variants.{Length as Short}
 use Rattle.reading.specs.declared.Verdict.{Verdict}
 use Rattle.reading.specs.declared.Verdict.the-variants.{Good, Bad}
 use Rattle.reading.specs.declared.Written.the-variants.{Length, No}
-use Rattle.reading.specs.Universal.{day, utcOf}
+use Rattle.reading.specs.Universal.{utcOf}
 use Rattle.reading.specs.Writing.{writtenOf, filled}
-use Rattle.reading.proofs.CheckLaws.{first-good, clash}
+use Rattle.reading.proofs.CheckLaws.{first-good}
 use Rattle.reading.proofs.UtcLaws.{Base}
 use Rattle.reading.proofs.LocalLaws.{Next}
 use Rattle.dcf77.specs.declared.Answer.the-variants.{Time}
-use Rattle.dcf77.specs.Forms.{longLength, lengthOf, dueLong}
+use Rattle.dcf77.specs.Forms.{shortLength, lengthOf, dueLong}
 use Rattle.dcf77.specs.Reader.{readDcf77}
 use Rattle.dcf77.specs.Writer.{bytesOf, needed, roomFault, writeFault}
+use Rattle.dcf77.proofs.LengthLaws.{room-short, room-own, room-all}
 use Rattle.dcf77.proofs.RoundTrip.{written-good, untouched, written-reads}
 use Rattle.summer.specs.Changes.{changeDate, changeMinute, isSummer}
 use Rattle.summer.proofs.ChangeLaws.{counted, summer-between}
@@ -50,6 +48,27 @@ room-good v long room e = first-good (ltb room (needed v long)) Short v e .1
 pub not-refused : (base : ℕ) (sender : Sender) (sent : Sent) (head room : ℕ) → telegramFault base sender sent head room ≡ Good → sendFault base sender sent head ≡ Good
 unfolding telegramFault
 not-refused base sender sent head room e = room-good (sendFault base sender sent head) (dueLong (telegramReading sender sent)) room e
+
+-- ---- the room that the sender asks for
+
+module _ (base : ℕ) (sender : Sender) (sent : Sent) (head : ℕ) where
+  abbrev due : Bool
+  due = dueLong (telegramReading sender sent)
+
+  -- fewer than 60 bytes are too few for anything
+  pub too-few-bytes : (room : ℕ) → room < shortLength → telegramFault base sender sent head room ≡ Bad Short
+  unfolding telegramFault
+  too-few-bytes room h = room-short due room (sendFault base sender sent head) h
+
+  -- "A refused minute needs 60 bytes of output": with these it has its own code
+  pub own-code : (room : ℕ) (x : Fault) → sendFault base sender sent head ≡ Bad x → shortLength ≤ room → telegramFault base sender sent head room ≡ Bad x
+  unfolding telegramFault
+  own-code room x e h = rw e (room-own due room x h)
+
+  -- and they are too few for a long minute that is accepted
+  pub long-needs-all : sendFault base sender sent head ≡ Good → due ≡ true → telegramFault base sender sent head shortLength ≡ Bad Short
+  unfolding telegramFault
+  long-needs-all e k = rw (e, k) room-all
 
 summer-is : (sender : Sender) (sent : Sent) → telegramReading sender sent .summer ≡ isSummer (sender .rule) (namedMinute sent .date) (namedMinute sent .minute)
 unfolding telegramReading namedSummer

@@ -1,15 +1,13 @@
 -- What is refused, in the order of the codes, each at place 0.
 use mathlib.Core.Bool.{Bool, false, not, _&&_, _||_}
 use Prim.Native.Nat.{ℕ}
-use Rattle.calendar.specs.declared.Date.{Date}
-use Rattle.calendar.specs.Calendar.{isDate}
 use Rattle.reading.specs.declared.Verdict.{Verdict}
 use Rattle.reading.specs.declared.Verdict.the-variants.{Good}
-use Rattle.reading.specs.declared.Fault.the-variants.{SummerRule, Time, Date as BadDate, QualityOrHead, LeapSecond as BadLeapSecond, OutsideYears}
+use Rattle.reading.specs.declared.Fault.the-variants.{SummerRule, Time, Date, QualityOrHead, LeapSecond as BadLeapSecond, OutsideYears}
 use Rattle.reading.specs.Faults.{first}
 use Rattle.reading.specs.Years.{inHundred}
 use Rattle.reading.specs.Leap.{closesWithLeap}
-use Rattle.reading.specs.Checks.{hourBad, minuteBad}
+use Rattle.reading.specs.Checks.{hourBad, minuteBad, noDay}
 use Rattle.dcf77.specs.Forms.{dueLong}
 use Rattle.dcf77.specs.Writer.{headBad, roomFault}
 use Rattle.summer.specs.Rules.{ruleBad}
@@ -19,18 +17,14 @@ use Rattle.telegram.specs.declared.LeapSecond.{LeapSecond}
 use Rattle.telegram.specs.declared.LeapSecond.the-variants.{None, Closes}
 use Rattle.telegram.specs.Telegram.{namedMinute, telegramReading}
 
--- "a minute with a bad field, year as in 01, is 15 or 16"
+-- "a minute with a bad field, year as in 01, is 15 or 16": 16 where it is on no day of the hundred years (`noDay`)
 unfoldable pub timeBad : Sent → Bool
 timeBad sent = hourBad (sent .hour) || minuteBad (sent .minute)
-
--- no day of the hundred years
-unfoldable pub dateBad : ℕ → Date → Bool
-dateBad base t = not (inHundred base (t .year) && isDate t)
 
 -- "a configured leap date that is no month end of 2000..2099 is 9"
 unfoldable pub leapDateBad : ℕ → LeapSecond → Bool
 leapDateBad base None = false
-leapDateBad base (Closes t) = dateBad base t || not (closesWithLeap t)
+leapDateBad base (Closes t) = noDay base t || not (closesWithLeap t)
 
 -- "a named minute whose UTC or local year is outside 2000..2099 is 12, last"
 unfoldable pub outside : ℕ → ℕ → ℕ → Bool
@@ -41,7 +35,7 @@ abbrev pub firstOf : Bool → Bool → Bool → Bool → Bool → Bool → Verdi
 firstOf rule time date head leap year =
     first rule SummerRule
     (first time (Time 0)
-    (first date (BadDate 0)
+    (first date (Date 0)
     (first head (QualityOrHead 0)
     (first leap (BadLeapSecond 0)
     (first year OutsideYears Good)))))
@@ -49,7 +43,7 @@ firstOf rule time date head leap year =
 -- the same of what is to be sent, where the named minute has this local year
 unfoldable pub faultWith : ℕ → Sender → Sent → ℕ → ℕ → Verdict
 faultWith base sender sent head localYear =
-    firstOf (ruleBad (sender .rule)) (timeBad sent) (dateBad base (sent .date)) (headBad head) (leapDateBad base (sender .leap))
+    firstOf (ruleBad (sender .rule)) (timeBad sent) (noDay base (sent .date)) (headBad head) (leapDateBad base (sender .leap))
     (outside base (namedMinute sent .date .year) localYear)
 
 unfoldable pub sendFault : ℕ → Sender → Sent → ℕ → Verdict

@@ -3,31 +3,23 @@ use super::LeapSecond;
 use super::Sender;
 use super::Sent;
 use super::named::named_minute;
-use calendar::Date;
-use calendar::months::is_date;
+use dcf77::Dcf77;
 use reading::Fault;
 use reading::Verdict;
 use reading::checks::hour_bad;
 use reading::checks::minute_bad;
+use reading::checks::no_day;
 use reading::leap::closes_with_leap;
 use reading::years::in_hundred;
 use summer::rules::rule_bad;
 ghost use mathlib.Core.Path.{_≡_};
 ghost use Rattle.reading.specs.Years.{base};
-ghost use Rattle.telegram.specs.Faults.{timeBad, dateBad, leapDateBad, outside, firstOf, faultWith};
-
-const LAST_HEAD: u16 = 32767;
+ghost use Rattle.telegram.specs.Faults.{timeBad, leapDateBad, outside, firstOf, faultWith};
 
 fn time_bad(sent: Sent) -> bool
     ensures { λ r. ⌜ r ≡ timeBad sent ⌝ }
 {
     hour_bad(sent.hour) | minute_bad(sent.minute)
-}
-
-fn date_bad(date: Date) -> bool
-    ensures { λ r. ⌜ r ≡ dateBad base date ⌝ }
-{
-    !(in_hundred(date.year) & is_date(date))
 }
 
 // No month of the hundred years ends with the date.
@@ -36,7 +28,7 @@ fn leap_date_bad(leap: LeapSecond) -> bool
 {
     match leap {
         LeapSecond::None => false,
-        LeapSecond::Closes(date) => date_bad(date) | !closes_with_leap(date),
+        LeapSecond::Closes(date) => no_day(date) | !closes_with_leap(date),
     }
 }
 
@@ -81,8 +73,8 @@ pub(super) fn send_fault(sender: Sender, sent: Sent, head: u16, local: u16) -> V
     first_of(
         rule_bad(sender.rule),
         time_bad(sent),
-        date_bad(sent.date),
-        LAST_HEAD < head,
+        no_day(sent.date),
+        Dcf77::LAST_HEAD < head,
         leap_date_bad(leap),
         outside(utc.year, local),
     )

@@ -11,7 +11,6 @@ use reading::universal::minute_after;
 use summer::changes::announces_change;
 use summer::changes::is_summer;
 ghost use mathlib.Core.Path.{_≡_};
-ghost use Prim.Native.Nat.{_≤_};
 ghost use Rattle.telegram.specs.Telegram.{utcSent, namedMinute, sameDate, announcesLeap, telegramReading};
 
 // 23:00.
@@ -39,7 +38,7 @@ fn same_date(s: Date, t: Date) -> bool
     (s.year == t.year) & ((s.month == t.month) & (s.day == t.day))
 }
 
-// Whether a minute lies in the hour before the leap second.
+// A leap second closes its day, so that the hour before it is the last.
 fn announces_leap(leap: LeapSecond, utc: Utc) -> bool
     ensures { λ r. ⌜ r ≡ announcesLeap leap utc ⌝ }
 {

@@ -1,14 +1,13 @@
 -- Through any changes of zone and any leap second: a fresh pulse reader that is fed a gap and then the telegrams of successive minutes says
 -- every named minute with its head, in order, each at its telegram's last symbol, and nothing else.
 use mathlib.Core.List.{List, [], _∷_, _++_, append-assoc}
-use mathlib.Core.Path.{_≡_, refl, sym, ap, ap₂, _∙_}
+use mathlib.Core.Path.{_≡_, refl, ap, ap₂, _∙_}
 use Prim.Native.Nat.{ℕ, zero, suc, _+_, _*_, _/_, _%_}
 use native.Mathlib.Omega.{arith}
-use lib.ListN.{length, take, drop, replicate}
+use lib.ListN.{length, replicate}
 use lib.Seq.{take-at}
 use Rattle.reading.specs.declared.Reading.{Reading}
 use Rattle.reading.specs.declared.Verdict.the-variants.{Good}
-use Rattle.reading.specs.Writing.{filled}
 use Rattle.reading.proofs.UtcLaws.{Base}
 use Rattle.dcf77.specs.Forms.{lengthOf, lastOf, dueLong}
 use Rattle.dcf77.specs.Writer.{bytesOf, carryFault}

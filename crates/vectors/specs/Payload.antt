@@ -1,11 +1,17 @@
--- What a case's payload holds: bytes at places, and a reading in its first twelve.
+-- What a case's payload holds: bytes at places, a reading in its first twelve, and what a telegram is made of.
 use mathlib.Core.Bool.{Bool, not, cond}
 use mathlib.Core.List.{List}
 use Prim.Native.Nat.{ℕ, _+_, _-_, _*_}
 use lib.Dec.{eqb, ltb}
 use lib.IntN.{ℤ, pos, negsuc}
 use lib.ListN.{getD}
+use Rattle.calendar.specs.declared.Date.{Date}
 use Rattle.reading.specs.declared.Reading.{Reading}
+use Rattle.summer.specs.declared.SetDay.{SetDay}
+use Rattle.summer.specs.declared.SummerRule.{SummerRule}
+use Rattle.telegram.specs.declared.Sent.{Sent}
+use Rattle.telegram.specs.declared.LeapSecond.{LeapSecond}
+use Rattle.telegram.specs.declared.LeapSecond.the-variants.{None, Closes}
 
 -- the byte at a place; past the end it is 0
 abbrev pub byteAt : List ℕ → ℕ → ℕ
@@ -38,3 +44,23 @@ readingIn s = record {
   change = flagAt s 10;
   quality = byteAt s 11;
 }
+
+-- ---- what a telegram is made of
+
+-- three bytes from a place on: month, day, weekday
+unfoldable pub setDayAt : List ℕ → ℕ → SetDay
+setDayAt s at = record { month = byteAt s at; day = byteAt s (at + 1); weekday = byteAt s (at + 2) }
+
+-- four bytes from a place on: year, month, day
+unfoldable pub dateAt : List ℕ → ℕ → Date
+dateAt s at = record { year = pairAt s at; month = byteAt s (at + 2); day = byteAt s (at + 3) }
+
+unfoldable pub ruleIn : List ℕ → SummerRule
+ruleIn s = record { start = setDayAt s 0; end = setDayAt s 3 }
+
+unfoldable pub sentIn : List ℕ → Sent
+sentIn s = record { date = dateAt s 6; hour = byteAt s 10; minute = byteAt s 11 }
+
+-- none is configured where byte 12 is 0
+unfoldable pub leapIn : List ℕ → LeapSecond
+leapIn s = cond (flagAt s 12) (Closes (dateAt s 13)) None

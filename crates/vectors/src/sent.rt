@@ -7,41 +7,57 @@ use summer::SetDay;
 use summer::SummerRule;
 use telegram::LeapSecond;
 use telegram::Sent;
+ghost use mathlib.Core.Path.{_≡_};
+ghost use Prim.Native.Nat.{_≤_};
+ghost use Rattle.vectors.specs.Payload.{setDayAt, dateAt, ruleIn, sentIn, leapIn};
 
-pub(crate) fn rule_in(payload: &[u8]) -> SummerRule {
-    SummerRule {
-        start: SetDay {
-            month: byte(payload, 0),
-            day: byte(payload, 1),
-            weekday: byte(payload, 2),
-        },
-        end: SetDay {
-            month: byte(payload, 3),
-            day: byte(payload, 4),
-            weekday: byte(payload, 5),
-        },
+fn set_day_at(payload: &[u8], at: usize) -> SetDay
+    requires { ⌜ at ≤ 3 ⌝ }
+    ensures { λ r. ⌜ r ≡ setDayAt (now (payload .entry)) at ⌝ }
+{
+    SetDay {
+        month: byte(payload, at),
+        day: byte(payload, at + 1),
+        weekday: byte(payload, at + 2),
     }
 }
 
-pub(crate) fn sent_in(payload: &[u8]) -> Sent {
+fn date_at(payload: &[u8], at: usize) -> Date
+    requires { ⌜ at ≤ 13 ⌝ }
+    ensures { λ r. ⌜ r ≡ dateAt (now (payload .entry)) at ⌝ }
+{
+    Date {
+        year: pair(payload, at),
+        month: byte(payload, at + 2),
+        day: byte(payload, at + 3),
+    }
+}
+
+pub(crate) fn rule_in(payload: &[u8]) -> SummerRule
+    ensures { λ r. ⌜ r ≡ ruleIn (now (payload .entry)) ⌝ }
+{
+    let start = set_day_at(payload, 0);
+    let end = set_day_at(payload, 3);
+    SummerRule { start, end }
+}
+
+pub(crate) fn sent_in(payload: &[u8]) -> Sent
+    ensures { λ r. ⌜ r ≡ sentIn (now (payload .entry)) ⌝ }
+{
+    let date = date_at(payload, 6);
     Sent {
-        date: Date {
-            year: pair(payload, 6),
-            month: byte(payload, 8),
-            day: byte(payload, 9),
-        },
+        date,
         hour: byte(payload, 10),
         minute: byte(payload, 11),
     }
 }
 
-pub(crate) fn leap_in(payload: &[u8]) -> LeapSecond {
+pub(crate) fn leap_in(payload: &[u8]) -> LeapSecond
+    ensures { λ r. ⌜ r ≡ leapIn (now (payload .entry)) ⌝ }
+{
     if flag(payload, 12) {
-        return LeapSecond::Closes(Date {
-            year: pair(payload, 13),
-            month: byte(payload, 15),
-            day: byte(payload, 16),
-        });
+        let date = date_at(payload, 13);
+        return LeapSecond::Closes(date);
     }
     LeapSecond::None
 }

@@ -87,6 +87,6 @@ unfolding cases pinned monthEnds places telegrams withOnes turned answerTo
     daysUntil changeDate changed isSummer hourBefore announcesChange
     rules.weekdayBad rules.dateBad rules.tooLate rules.setDayBad rules.dayIn rules.crossed rules.ruleBad
     utcSent namedMinute namedSummer sameDate announcesLeap telegramReading
-    sending.timeBad sending.dateBad sending.leapDateBad sending.outside sending.faultWith sending.sendFault sending.telegramFault
+    sending.timeBad sending.leapDateBad sending.outside sending.faultWith sending.sendFault sending.telegramFault
     bodyLength readBody recordAt nextAt recordsFrom decimal digitsBefore lineAt linesOf bodyText listing
 worked = (refl, refl, refl, refl, refl)

@@ -4,7 +4,6 @@ use mathlib.Core.List.{List, [], _∷_, _++_}
 use Prim.Native.Nat.{ℕ}
 use Rattle.calendar.specs.declared.Date.{Date}
 use Rattle.summer.specs.declared.SetDay.{SetDay}
-use Rattle.summer.specs.declared.SummerRule.{SummerRule}
 use Rattle.telegram.specs.declared.Sent.{Sent}
 use Rattle.telegram.specs.declared.Sender.{Sender}
 use Rattle.telegram.specs.declared.LeapSecond.{LeapSecond}

@@ -4,15 +4,12 @@ use Rattle.reading.specs.Checks.{dateBad}
 use Rattle.reading.proofs.checks.date_bad.Statement.{statement}
 use Rattle.reading.proofs.checks.date_bad.Tie as tie
 
-in-hundred-requires : tie.Need-in-hundred-requires
-in-hundred-requires c κs = search needs
-
-is-date-requires : tie.Need-is-date-requires
-is-date-requires c κs = search needs
+no-day-requires : tie.Need-no-day-requires
+no-day-requires c κs = search needs
 
 returns : tie.Need-returns
 unfolding dateBad
-returns c = rw (c .before .in-hundred .ensures, c .is-date .ensures)
+returns c = rw (c .no-day .ensures)
 
 pub date-bad-spec : {M : Type 1} → statement M
-date-bad-spec = tie.close (tie.spec in-hundred-requires is-date-requires returns)
+date-bad-spec = tie.close (tie.spec no-day-requires returns)

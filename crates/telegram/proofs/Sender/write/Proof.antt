@@ -3,7 +3,6 @@ use borrow.Author.Needs.{needs}
 use mathlib.Core.List.{List}
 use mathlib.Core.Path.{_≡_, sym, ap, _∙_}
 use Prim.Native.Nat.{ℕ, _≤_, _<_}
-use native.Mathlib.Omega.{arith}
 use lib.ListN.{length}
 use Rattle.reading.specs.declared.Reading.{Reading}
 use Rattle.reading.specs.declared.Refusal.{Refusal}
@@ -19,12 +18,11 @@ use Rattle.reading.specs.Writing.{writtenOf, filled}
 use Rattle.reading.proofs.UtcLaws.{base-fine}
 use Rattle.dcf77.specs.Forms.{shortLength, lengthOf, dueLong}
 use Rattle.dcf77.specs.Writer.{bytesOf, writeFault}
-use Rattle.dcf77.proofs.LengthLaws.{room-short, room-own}
 use Rattle.telegram.specs.declared.Sent.{Sent}
 use Rattle.telegram.specs.declared.Sender.{Sender}
 use Rattle.telegram.specs.Telegram.{telegramReading}
 use Rattle.telegram.specs.Faults.{faultWith, sendFault, telegramFault}
-use Rattle.telegram.proofs.TelegramLaws.{as-written}
+use Rattle.telegram.proofs.TelegramLaws.{as-written, too-few-bytes, own-code}
 use Rattle.telegram.proofs.Sender.write.Statement.{statement}
 use Rattle.telegram.proofs.Sender.write.Tie as tie
 
@@ -43,8 +41,7 @@ module _ (sender : Sender) (sent : Sent) (head : ℕ) (out : List ℕ) where
   refused x n w after v q e f = rw v (e ∙ ap Refused q, f)
 
   too-short : (n : Refusal) (w : Written) (after : List ℕ) → length out < shortLength → n ≡ number Length → w ≡ Refused n → after ≡ out → Right w after
-  unfolding telegramFault
-  too-short n w after h = refused Length n w after (room-short (dueLong (telegramReading sender sent)) (length out) (sendFault base sender sent head) h)
+  too-short n w after h = refused Length n w after (too-few-bytes base sender sent head (length out) h)
 
   -- what the code found of the reading that it worked out
   found : (r : Reading) (v : Verdict) → r ≡ telegramReading sender sent → v ≡ faultWith base sender sent head (r .year) → v ≡ sendFault base sender sent head
@@ -53,10 +50,7 @@ module _ (sender : Sender) (sent : Sent) (head : ℕ) (out : List ℕ) where
 
   module _ (r : Reading) (v : Verdict) (is : r ≡ telegramReading sender sent) (judged : v ≡ faultWith base sender sent head (r .year)) where
     bad : (x : Fault) (n : Refusal) (w : Written) (after : List ℕ) → shortLength ≤ length out → v ≡ Bad x → n ≡ number x → w ≡ Refused n → after ≡ out → Right w after
-    unfolding telegramFault
-    bad x n w after h e =
-        refused x n w after
-        (rw (sym (found r v is judged) ∙ e) (room-own (dueLong (telegramReading sender sent)) (length out) x h))
+    bad x n w after h e = refused x n w after (own-code base sender sent head (length out) x (sym (found r v is judged) ∙ e) h)
 
     wrote : (w : Written) (after : List ℕ) → v ≡ Good → w ≡ writtenOf (writeFault base r head (length out)) (lengthOf (dueLong r))
         → after ≡ filled (writeFault base r head (length out)) (bytesOf r head) out → Right w after

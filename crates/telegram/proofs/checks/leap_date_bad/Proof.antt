@@ -10,8 +10,8 @@ enum-told c = search needs
 enum-known-leap : tie.Need-enum-known-leap
 enum-known-leap c = search needs
 
-date-bad-requires : tie.Need-date-bad-requires
-date-bad-requires c κs = search needs
+no-day-requires : tie.Need-no-day-requires
+no-day-requires c κs = search needs
 
 closes-with-leap-requires : tie.Need-closes-with-leap-requires
 closes-with-leap-requires c κs = search needs
@@ -22,7 +22,7 @@ returns c = rw (c .enum-told .given .1)
 
 returns-2 : tie.Need-returns-2
 unfolding leapDateBad
-returns-2 c = rw (c .before .before .before .leap .given .1, c .before .date-bad .ensures, c .closes-with-leap .ensures)
+returns-2 c = rw (c .before .before .before .leap .given .1, c .before .no-day .ensures, c .closes-with-leap .ensures)
 
 pub leap-date-bad-spec : {M : Type 1} → statement M
 leap-date-bad-spec =
@@ -30,7 +30,7 @@ leap-date-bad-spec =
     (tie.spec
     enum-told
     enum-known-leap
-    date-bad-requires
+    no-day-requires
     closes-with-leap-requires
     returns
     returns-2)

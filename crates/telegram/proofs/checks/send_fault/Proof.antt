@@ -14,8 +14,8 @@ rule-bad-requires c κs = search needs
 time-bad-requires : tie.Need-time-bad-requires
 time-bad-requires c κs = search needs
 
-date-bad-requires : tie.Need-date-bad-requires
-date-bad-requires c κs = search needs
+no-day-requires : tie.Need-no-day-requires
+no-day-requires c κs = search needs
 
 leap-date-bad-requires : tie.Need-leap-date-bad-requires
 leap-date-bad-requires c κs = search needs
@@ -33,7 +33,7 @@ returns c =
       c .first-of .ensures,
       c .before .outside .ensures,
       c .before .before .leap-date-bad .ensures,
-      c .before .before .before .date-bad .ensures,
+      c .before .before .before .no-day .ensures,
       c .before .before .before .before .time-bad .ensures,
       c .before .before .before .before .before .rule-bad .ensures,
       c .before .before .before .before .before .before .before .named-minute .ensures,
@@ -46,7 +46,7 @@ send-fault-spec =
     named-minute-requires
     rule-bad-requires
     time-bad-requires
-    date-bad-requires
+    no-day-requires
     leap-date-bad-requires
     outside-requires
     first-of-requires
