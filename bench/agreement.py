@@ -1,12 +1,13 @@
 """Before anything is counted: the proved functions, the C baseline and the second program have to give the same answers, on
-every record that is counted, on damaged ones, around every month end, on inputs with one fault and with several, and on
-telegrams around every change."""
+every record that is counted, on damaged ones, around every month end, on inputs with one fault and with several, on strings of
+every length, and on telegrams around every change."""
 import subprocess
 import sys
 
 import kit
 import records
 import rows
+import case_door
 import case_months
 import case_places
 import case_telegrams
@@ -15,7 +16,7 @@ from case_parts import bridge_case, case
 
 STEP = 7
 PULSES = (0, 1, 2, 255)
-ANSWERED_IN_C = {*range(1, 9), 10, 11, 12, 15}
+ANSWERED_IN_C = {1, *range(3, 9), 10, 11, 12, 15}
 BOOK = 13
 
 
@@ -35,9 +36,7 @@ def damaged_streams(stream):
 
 def case_of(op, record):
     """A record as the second program's case."""
-    if rows.BRIDGE <= op < rows.TELEGRAM:
-        return bridge_case(op - rows.BRIDGE + 1, records.ROOM, record)
-    return case(op, record)
+    return bridge_case(records.ROOM, record) if op == rows.BRIDGE else case(op, record)
 
 
 def cases_of_records(length):
@@ -54,10 +53,10 @@ def cases_of_pulses():
 
 
 def cases_of_second():
-    """The leap rule at every month end, codes and places, and telegrams: the second program's own cases, as far as the C
-    baseline answers them."""
+    """The leap rule at every month end, codes and places, lengths of strings, and telegrams: the second program's own cases, as
+    far as the C baseline answers them."""
     for name, make in (("month ends", case_months.make), ("codes and places", case_places.make),
-                       ("telegrams", case_telegrams.make)):
+                       ("lengths of strings", case_door.make), ("telegrams", case_telegrams.make)):
         yield name, [one for one in make() if one[0] in ANSWERED_IN_C]
 
 
@@ -89,10 +88,10 @@ def compare(ours, plain, length):
 
 def compare_listings(programs, length):
     """The same for the listing program: a book, books cut short, some changes of a small one, and the second program's own
-    books of month ends and of faults."""
+    books of month ends, of faults, and of strings under the other's kind."""
     whole, small = records.book(length), records.book(10)
     books = [b"", whole, whole + bytes(65537), *(whole[:end] for end in range(0, len(whole), 997)), *damaged(small, 1009)]
-    books += [one[3:] for one in (*case_months.make(), *case_places.make()) if one[0] == BOOK]
+    books += [one[3:] for one in (*case_months.make(), *case_places.make(), *case_door.make()) if one[0] == BOOK]
     for one in books:
         wrote = [kit.output_of(program, one) for program in programs] + [listing_text(one).encode()]
         if any(text != wrote[0] for text in wrote):

@@ -6,7 +6,7 @@ import sys
 
 ROOT = pathlib.Path(__file__).resolve().parent.parent
 BUILT = ROOT / "target" / "bench"
-FORMATS = ("meinberg", "erlangen", "frame", "minute", "telegram", "bridge", "streams")
+FORMATS = ("meinberg", "erlangen", "clock_string", "frame", "minute", "telegram", "bridge", "streams")
 CLANG_WORDS = ("--target=x86_64-unknown-linux-gnu", "-march=x86-64", "-O3", "-fPIC", "-nostdinc", "-Wall", "-Wextra", "-Werror")
 
 

@@ -17,7 +17,8 @@ from reading import Reading  # noqa: E402
 POSITION = case_parts.POSITION
 ROOM = 128
 START = datetime.datetime(2000, 1, 1)
-FORMATS = ("Meinberg", "Uni Erlangen", "IEEE 1344", "DCF77")
+STRINGS = ("Meinberg", "Uni Erlangen")
+FORMATS = (*STRINGS, "IEEE 1344", "DCF77")
 LARGEST_OFFSET = 28
 OFFSETS = 53
 LAST_DAY = 36494  # December 2099 is left out: its last hours name minutes of 2100

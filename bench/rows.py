@@ -8,7 +8,9 @@ SHORT = 20
 GOAL = 1.25
 PULSE_GOAL = 150
 TELEGRAM_GOAL = 2
-READ, WRITE, BRIDGE, TELEGRAM = 1, 5, 13, 15
+# The operation that reads a record of each format: both strings go through one door.
+READ = {"Meinberg": 1, "Uni Erlangen": 1, "IEEE 1344": 3, "DCF77": 4}
+WRITE, BRIDGE, TELEGRAM = 5, 13, 15
 FRAME_PULSES, MINUTE_PULSES = 11, 12
 # Operations that are the driver's work alone: its loop over the records, and for writers the readings taken apart before.
 LOOP, DECODING = 0, 9
@@ -24,21 +26,22 @@ def of_format(make, form):
 
 
 def record_rows():
-    """Every reader and writer, and the telegram: accepted, refused early, refused by its last check; and the bridge."""
+    """Every reader, that of strings with either string, every writer, and the telegram: accepted, refused early, refused by its
+    last check; and the bridge with either string."""
     rows = []
     reads = (("accepted", records.accepted), ("refused: length", records.too_short),
              ("refused: first byte", records.first_byte_wrong), ("refused: last check", records.refused_late))
     writes = (("accepted", records.asked_well), ("refused: no room", records.without_room),
               ("refused: last check", records.asked_in_vain))
-    for place, form in enumerate(records.FORMATS):
-        rows += [Row(f"read {form}, {name}", READ + place, of_format(make, form), LOOP) for name, make in reads]
+    for form, op in READ.items():
+        called = f"string, {form}" if form in records.STRINGS else f"read {form}"
+        rows += [Row(f"{called}, {name}", op, of_format(make, form), LOOP) for name, make in reads]
     for place, form in enumerate(records.FORMATS):
         rows += [Row(f"write {form}, {name}", WRITE + place, of_format(make, form), DECODING) for name, make in writes]
     telegrams = (("accepted", records.telegram_asked), ("refused: no room", records.telegram_without_room),
                  ("refused: last check", records.telegram_too_late))
     rows += [Row(f"telegram, {name}", TELEGRAM, make, LOOP) for name, make in telegrams]
-    for place, form in enumerate(records.FORMATS[:2]):
-        rows.append(Row(f"bridge {form}, accepted", BRIDGE + place, of_format(records.accepted, form), LOOP))
+    rows += [Row(f"bridge, {form}, accepted", BRIDGE, of_format(records.accepted, form), LOOP) for form in records.STRINGS]
     return rows
 
 

@@ -6,6 +6,7 @@ import sys
 from typing import Callable, Iterator, Tuple, Union
 
 import bridge
+import clock_string
 import dcf77
 import erlangen
 import ieee1344
@@ -14,24 +15,29 @@ import published
 import pulse_readers
 import telegram
 from book import listing_text
+from clock_string import ToldString
 from reading import Reading, Refusal, Told, stamp
 
 FILLING = 0xA5
 READING_BYTES = 12
 WRITER_BYTES = 15
 TELEGRAM_BYTES = 20
-BRIDGE_KINDS = {1: "Meinberg", 2: "Uni Erlangen"}
 BAD = "bad"
 
 
-def words_of(answer: Union[Told, Refusal]) -> list:
-    """A reader's answer as words: time and its fields, or no, code and place."""
+def time_words(first: str, reading: Reading, beside: Union[bool, int, None]) -> list:
+    """The first word, and the reading with what stands beside it as numbers."""
+    numbers = [*reading] if beside is None else [*reading, beside]
+    return [first] + [str(int(value)) for value in numbers]
+
+
+def words_of(answer: Union[Told, ToldString, Refusal]) -> list:
+    """A reader's answer as words: time, or the string's kind, and its fields; or no, code and place."""
     if isinstance(answer, Refusal):
         return ["no", str(answer.code), str(answer.place)]
-    numbers = [str(int(value)) for value in answer.reading]
-    if answer.beside is not None:
-        numbers.append(str(int(answer.beside)))
-    return ["time"] + numbers
+    if isinstance(answer, ToldString):
+        return time_words(answer.kind, answer.reading, answer.coasting)
+    return time_words("time", answer.reading, answer.beside)
 
 
 def hexadecimal(data: bytes) -> str:
@@ -50,9 +56,10 @@ def read_line(read: Callable, payload: bytes) -> str:
     return " ".join(words_of(read(payload)))
 
 
-def erlangen_line(payload: bytes) -> str:
-    return "%s part %s" % (read_line(erlangen.read, payload),
-                           hexadecimal(erlangen.position_part(payload)))
+def string_line(payload: bytes) -> str:
+    """What is said of a clock string, and in every case its position part."""
+    return "%s part %s" % (read_line(clock_string.read, payload),
+                           hexadecimal(clock_string.position_part(payload)))
 
 
 def written_line(answer: Union[int, Refusal], output: bytes) -> str:
@@ -97,11 +104,10 @@ def stamp_line(payload: bytes) -> str:
 
 
 def bridge_line(payload: bytes) -> str:
-    if len(payload) < 2 or payload[0] not in BRIDGE_KINDS:
+    if not payload:
         return BAD
-    output = bytearray([FILLING]) * payload[1]
-    answer = bridge.bridge(BRIDGE_KINDS[payload[0]], payload[2:], output)
-    return written_line(answer, output)
+    output = bytearray([FILLING]) * payload[0]
+    return written_line(bridge.bridge(payload[1:], output), output)
 
 
 def said_line(reader, payload: bytes) -> str:
@@ -143,8 +149,7 @@ WRITERS = {
 }
 
 LINES = {
-    1: lambda payload: read_line(meinberg.read, payload),
-    2: erlangen_line,
+    1: string_line,
     3: lambda payload: read_line(ieee1344.read, payload),
     4: lambda payload: read_line(dcf77.read, payload),
     5: lambda payload: write_line(WRITERS[5], payload),
@@ -158,8 +163,7 @@ LINES = {
     13: lambda payload: listing_text(payload).replace("\n", "|"),
     14: lambda payload: published.table_line(),
     15: telegram_line,
-    20: lambda payload: changes_line(meinberg.read, payload),
-    21: lambda payload: changes_line(erlangen.read, payload),
+    20: lambda payload: changes_line(clock_string.read, payload),
     22: lambda payload: changes_line(ieee1344.read, payload),
     23: lambda payload: changes_line(dcf77.read, payload),
 }

@@ -2,18 +2,21 @@
 
 from typing import Iterator, List, NamedTuple, Union
 
+import clock_string
 import dcf77
 import erlangen
 import ieee1344
 import meinberg
+from clock_string import ToldString
 from reading import Refusal, Told, stamp
 
 LARGEST_BOOK = 65536
 HEADER = "at kind answer value place"
-# kind -> (length of the body, reader of the body)
+# kind -> (length of the body, reader of the body). The kind alone fixes the length, and so which of the
+# two strings it is that the door reads.
 KINDS = {
-    1: (meinberg.LENGTH, meinberg.read),
-    2: (erlangen.LENGTH, erlangen.read),
+    1: (meinberg.LENGTH, clock_string.read),
+    2: (erlangen.LENGTH, clock_string.read),
     3: (ieee1344.LENGTH, ieee1344.read),
     4: (dcf77.LENGTH, dcf77.read),
     5: (dcf77.LONG_LENGTH, dcf77.read),
@@ -25,7 +28,7 @@ class Record(NamedTuple):
 
     at: int
     kind: int
-    answer: Union[Told, Refusal]
+    answer: Union[Told, ToldString, Refusal]
 
 
 def records(book: bytes) -> Iterator[Record]:
@@ -46,9 +49,8 @@ def records(book: bytes) -> Iterator[Record]:
 
 def line_of(record: Record) -> str:
     """A record's line of the listing."""
-    value = record.answer
-    if isinstance(value, Told):
-        value = stamp(value.reading)
+    answer = record.answer
+    value = answer if isinstance(answer, Refusal) else stamp(answer.reading)
     if isinstance(value, Refusal):
         return "%d %d no %d %d" % (record.at, record.kind, value.code, value.place)
     return "%d %d ok %d 0" % (record.at, record.kind, value)

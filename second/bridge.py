@@ -1,13 +1,11 @@
-"""The bridge: reads a string of a named kind and writes the IEEE 1344 frame of its reading."""
+"""The bridge: reads a clock string, whichever of the two it is, and writes the IEEE 1344 frame of its
+reading."""
 
 from typing import Union
 
-import erlangen
+import clock_string
 import ieee1344
-import meinberg
 from reading import Reading, Refusal, in_leap_minute
-
-READERS = {"Meinberg": meinberg.read, "Uni Erlangen": erlangen.read}
 
 
 def bridged(reading: Reading) -> Reading:
@@ -18,11 +16,11 @@ def bridged(reading: Reading) -> Reading:
         change=bool(reading.change) and in_window and reading.minute == 59)
 
 
-def bridge(kind: str, string: bytes, output: bytearray) -> Union[int, Refusal]:
+def bridge(string: bytes, output: bytearray) -> Union[int, Refusal]:
     """Output length first, then the string's own refusal, then the frame; coasting is dropped."""
     if len(output) < ieee1344.LENGTH:
         return Refusal(1)
-    answer = READERS[kind](string)
+    answer = clock_string.read(string)
     if isinstance(answer, Refusal):
         return answer
     return ieee1344.write(bridged(answer.reading), output)

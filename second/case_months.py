@@ -29,12 +29,12 @@ def firsts() -> List[datetime]:
 
 def told(reading: Reading) -> Iterator[bytes]:
     """Read, bridged and stamped."""
-    yield case(2, raw_erlangen(reading))
-    yield bridge_case(2, 100, raw_erlangen(reading))
+    yield case(1, raw_erlangen(reading))
+    yield bridge_case(100, raw_erlangen(reading))
     yield case(9, reading_bytes(reading))
     if reading.offset in MEINBERG_OFFSETS:
         yield case(1, raw_meinberg(reading))
-        yield bridge_case(1, 100, raw_meinberg(reading))
+        yield bridge_case(100, raw_meinberg(reading))
 
 
 def written(reading: Reading) -> Iterator[bytes]:

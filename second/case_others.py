@@ -69,31 +69,31 @@ def bridges() -> Iterator[bytes]:
         for leap, change in ((False, False), (True, False), (False, True), (True, True)):
             said = reading._replace(leap=leap, change=change)
             if not (leap and change) and said.offset in (0, 2, 4):
-                yield bridge_case(1, 100, raw_meinberg(said))
-            yield bridge_case(2, 101, raw_erlangen(said, coasting=change))
+                yield bridge_case(100, raw_meinberg(said))
+            yield bridge_case(101, raw_erlangen(said, coasting=change))
     for offset in range(-25, 30):
-        yield bridge_case(2, 100, raw_erlangen(PLAIN._replace(offset=offset, summer=offset > 9)))
-    strings = [(1, raw_meinberg(PLAIN._replace(quality=15), coasting=True)), (1, raw_meinberg()),
-               (1, raw_erlangen()), (2, raw_erlangen()), (2, raw_meinberg()), (1, b""), (2, b"")]
-    strings += [(1, raw_meinberg(weekday=weekday)) for weekday in (0, 3, 4, 9)]
-    strings += [(2, raw_erlangen(weekday=weekday)) for weekday in (0, 3, 4, 9)]
-    strings += [(2, raw_erlangen(offset=text)) for text in ("-00:00", "+99:99", "+0x:00")]
-    strings += [(1, raw_meinberg(PLAIN._replace(second=second))) for second in (60, 61)]
-    strings += [(2, raw_erlangen(PLAIN._replace(second=second))) for second in (60, 61)]
-    strings += [(2, raw_erlangen(letters="      L")), (2, raw_erlangen(position=b"\x7f" * 26)),
-                (2, raw_erlangen(PLAIN._replace(quality=15, change=True), position=POSITION))]
-    for kind, string in strings:
+        yield bridge_case(100, raw_erlangen(PLAIN._replace(offset=offset, summer=offset > 9)))
+    strings = [raw_meinberg(PLAIN._replace(quality=15), coasting=True), raw_meinberg(),
+               raw_erlangen(), b""]
+    strings += [raw_meinberg(weekday=weekday) for weekday in (0, 3, 4, 9)]
+    strings += [raw_erlangen(weekday=weekday) for weekday in (0, 3, 4, 9)]
+    strings += [raw_erlangen(offset=text) for text in ("-00:00", "+99:99", "+0x:00")]
+    strings += [raw_meinberg(PLAIN._replace(second=second)) for second in (60, 61)]
+    strings += [raw_erlangen(PLAIN._replace(second=second)) for second in (60, 61)]
+    strings += [raw_erlangen(letters="      L"), raw_erlangen(position=b"\x7f" * 26),
+                raw_erlangen(PLAIN._replace(quality=15, change=True), position=POSITION)]
+    for string in strings:
         for room in (0, 99, 100, 101, 255):
-            yield bridge_case(kind, room, string)
+            yield bridge_case(room, string)
     for place in range(32):
-        yield bridge_case(1, 100, raw_meinberg()[:place] + b"\xff" + raw_meinberg()[place + 1:])
+        yield bridge_case(100, raw_meinberg()[:place] + b"\xff" + raw_meinberg()[place + 1:])
     for place in range(68):
-        yield bridge_case(2, 100, raw_erlangen()[:place] + b"\x00" + raw_erlangen()[place + 1:])
-    for kind in (0, 3, 255):
-        yield bridge_case(kind, 100, raw_meinberg())
+        yield bridge_case(100, raw_erlangen()[:place] + b"\x00" + raw_erlangen()[place + 1:])
+    for room in (0, 1, 2, 3, 255):  # the byte after the room is the string's first
+        yield bridge_case(room, b"\x64" + raw_meinberg())
     yield case(10, b"")
-    yield case(10, b"\x01")
-    yield case(10, b"\x01\x64")
+    for payload in (b"\x01", b"\x64", b"\xff", b"\x01\x64", b"\x64\x02"):
+        yield case(10, payload)
 
 
 def two_faults() -> List[Tuple[int, bytes]]:

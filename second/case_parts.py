@@ -72,8 +72,8 @@ def with_leap(day: date, asked: Asked) -> Asked:
     return asked._replace(leap_set=1, leap_year=day.year, leap_month=day.month, leap_day=day.day)
 
 
-def bridge_case(kind: int, room: int, string: bytes) -> bytes:
-    return case(10, bytes((kind, room)) + string)
+def bridge_case(room: int, string: bytes) -> bytes:
+    return case(10, bytes((room,)) + string)
 
 
 def local(utc: datetime, offset: int, second: int = 0, **flags) -> Reading:

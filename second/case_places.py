@@ -44,6 +44,8 @@ EARLY = Reading(2000, 1, 1, 0, 30, 0, 2, False, False, False, 0)  # case 9: its 
 DAYS = (0, 1, 28, 29, 30, 31, 32)
 MONTHS = (*range(14), 19)
 RECORDS, PIECES = 30, 8
+# Kind of a book's record -> the op that reads its body
+READERS = {1: 1, 2: 1, 3: 3, 4: 4, 5: 4}
 
 
 def together(faults: Sequence[Fault], count: int) -> Iterator[Dict]:
@@ -96,7 +98,8 @@ def minutes() -> List[bytes]:
 
 
 def dates() -> Iterator[Tuple[int, bytes]]:
-    """Days at and beyond a month's end in every month, and in months that are none."""
+    """Days at and beyond a month's end in every month, and in months that are none; each with its kind
+    in a book."""
     for year in (2023, 2024):
         for month in MONTHS:
             for day in DAYS:
@@ -106,15 +109,11 @@ def dates() -> Iterator[Tuple[int, bytes]]:
                 yield 4, bytes(raw_minute(reading))
 
 
-def kind_of(op: int, body: bytes) -> int:
-    return 5 if op == 4 and len(body) == 61 else op
-
-
 def in_books(inputs: Sequence[Tuple[int, bytes]]) -> Iterator[bytes]:
     """The inputs as the records of books, a few in each."""
     for start in range(0, len(inputs), RECORDS):
         records = inputs[start:start + RECORDS]
-        yield case(13, b"".join(bytes((kind_of(*record),)) + record[1] for record in records))
+        yield case(13, b"".join(bytes((kind,)) + given for kind, given in records))
 
 
 def in_runs(op: int, first: bytes, inputs: Sequence[bytes]) -> Iterator[bytes]:
@@ -128,14 +127,14 @@ def readers() -> Iterator[bytes]:
     inputs = [(1, string_with(raw_meinberg, faults)) for faults in combined(MEINBERG_FAULTS)]
     inputs += [(2, string_with(raw_erlangen, faults)) for faults in combined(ERLANGEN_FAULTS)]
     inputs += [(3, frame) for frame in frames()]
-    inputs += [(4, minute) for minute in minutes()]
-    for op, given in inputs + list(dates()):
-        yield case(op, given)
-        if op in (1, 2):
-            yield bridge_case(op, 100, given)
+    inputs += [(5 if len(minute) == 61 else 4, minute) for minute in minutes()]
+    for kind, given in inputs + list(dates()):
+        yield case(READERS[kind], given)
+        if kind in (1, 2):
+            yield bridge_case(100, given)
     yield from in_books(inputs)
-    yield from in_runs(11, b"", [given for op, given in inputs if op == 3])
-    yield from in_runs(12, b"\x02", [given for op, given in inputs if op == 4])
+    yield from in_runs(11, b"", [given for kind, given in inputs if kind == 3])
+    yield from in_runs(12, b"\x02", [given for kind, given in inputs if kind in (4, 5)])
 
 
 def asked(op: int, base: Reading, faults: Dict, room: int = 128) -> bytes:

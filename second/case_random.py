@@ -2,8 +2,11 @@
 
 import random
 from datetime import datetime, timedelta
-from typing import Callable, Dict, Iterator
+from typing import Callable, Iterator, Tuple
 
+import erlangen
+import meinberg
+from case_door import fitted
 from case_parts import (POSITION, bridge_case, case, local, mend_frame, mend_minute, raw_erlangen,
                         raw_frame, raw_meinberg, raw_minute, reading_bytes, write_case)
 from case_streams import DAMAGES, damaged
@@ -71,10 +74,18 @@ def as_it_is(data: bytearray) -> bytearray:
     return data
 
 
+def now_and_then_fitted(string: bytes, length: int, dice: random.Random) -> bytes:
+    """The string, seldom cut or padded to the length of the other."""
+    if dice.random() < 0.96:
+        return string
+    return dice.choice(fitted(string, length, dice.choice((b" ", b"\x00", b"0", string or b" "))))
+
+
 def a_meinberg(dice: random.Random) -> bytes:
     weekday = dice.choice((-1, -1, -1, -1, dice.randrange(10)))
     string = raw_meinberg(any_reading(dice, STRING_VALUES), weekday, coasting=dice.random() < 0.3)
-    return spoiled(string, dice, b"0123456789 U!AS#*", as_it_is)
+    string = spoiled(string, dice, b"0123456789 U!AS#*", as_it_is)
+    return now_and_then_fitted(string, erlangen.LENGTH, dice)
 
 
 def an_erlangen(dice: random.Random) -> bytes:
@@ -82,7 +93,8 @@ def an_erlangen(dice: random.Random) -> bytes:
     offset = dice.choice(("", "", "", "", "-00:00", "+14:30", "+05:45", "-12:30", "+00:30"))
     string = raw_erlangen(any_reading(dice, STRING_VALUES), weekday, offset,
                           coasting=dice.random() < 0.3)
-    return spoiled(string, dice, b"0123456789 L!AS#*+-", as_it_is)
+    string = spoiled(string, dice, b"0123456789 L!AS#*+-", as_it_is)
+    return now_and_then_fitted(string, meinberg.LENGTH, dice)
 
 
 def a_frame(dice: random.Random) -> bytes:
@@ -122,11 +134,8 @@ def a_write(op: int, length: int, dice: random.Random) -> bytes:
 
 
 def a_bridge(dice: random.Random) -> bytes:
-    kind = dice.choice((1, 2))
-    string = a_meinberg(dice) if kind == 1 else an_erlangen(dice)
-    if dice.random() < 0.02:
-        kind = dice.choice((1, 2, 3))
-    return bridge_case(kind, dice.choice((100, 100, 100, 100, 101, 99, 255, 0)), string)
+    string = dice.choice((a_meinberg, an_erlangen))(dice)
+    return bridge_case(dice.choice((100, 100, 100, 100, 101, 99, 255, 0)), string)
 
 
 def a_stream(op: int, dice: random.Random) -> bytes:
@@ -146,6 +155,8 @@ def a_book(dice: random.Random) -> bytes:
     for _ in range(dice.randrange(6)):
         kind = dice.choice((1, 2, 3, 4, 4, 5))
         body = {1: a_meinberg, 2: an_erlangen, 3: a_frame, 4: a_minute, 5: a_minute}[kind](dice)
+        if kind in (1, 2) and dice.random() < 0.05:
+            kind = 3 - kind  # a string under the other's kind, which fixes the length
         if dice.random() < 0.9:
             length = {1: 32, 2: 68, 3: 100, 4: 60, 5: 61}[kind]
             body = (body + bytes(length))[:length]
@@ -156,36 +167,38 @@ def a_book(dice: random.Random) -> bytes:
 
 
 def a_bad_case(dice: random.Random) -> bytes:
-    op = dice.choice((0, 5, 6, 7, 8, 9, 10, 14, 19, 24, 128, 255))
+    op = dice.choice((0, 2, 5, 6, 7, 8, 9, 10, 14, 19, 21, 24, 128, 255))
     return case(op, bytes(dice.randrange(256) for _ in range(dice.randrange(16))))
 
 
-MAKERS: Dict[int, Callable[[random.Random], bytes]] = {
-    1: lambda dice: case(1, a_meinberg(dice)),
-    2: lambda dice: case(2, an_erlangen(dice)),
-    3: lambda dice: case(3, a_frame(dice)),
-    4: lambda dice: case(4, a_minute(dice)),
-    5: lambda dice: a_write(5, 32, dice),
-    6: lambda dice: a_write(6, 68, dice),
-    7: lambda dice: a_write(7, 100, dice),
-    8: lambda dice: a_write(8, 60, dice),
-    9: lambda dice: case(9, reading_bytes(any_reading(dice))),
-    10: a_bridge,
-    11: lambda dice: a_stream(11, dice),
-    12: lambda dice: a_stream(12, dice),
-    13: a_book,
-}
-CHANGES = {20: raw_meinberg, 21: raw_erlangen, 22: raw_frame}
+# Each is drawn as often as each other.
+MAKERS: Tuple[Callable[[random.Random], bytes], ...] = (
+    lambda dice: case(1, a_meinberg(dice)),
+    lambda dice: case(1, an_erlangen(dice)),
+    lambda dice: case(3, a_frame(dice)),
+    lambda dice: case(4, a_minute(dice)),
+    lambda dice: a_write(5, 32, dice),
+    lambda dice: a_write(6, 68, dice),
+    lambda dice: a_write(7, 100, dice),
+    lambda dice: a_write(8, 60, dice),
+    lambda dice: case(9, reading_bytes(any_reading(dice))),
+    a_bridge,
+    lambda dice: a_stream(11, dice),
+    lambda dice: a_stream(12, dice),
+    a_book,
+)
+# Op that lists changes, and what makes a good input of it
+CHANGES = ((20, raw_meinberg), (20, raw_erlangen), (22, raw_frame), (23, raw_minute))
 
 
 def a_change_case(dice: random.Random) -> bytes:
-    """Ops 20 to 23 on a good input; they are long work, so they are rare."""
-    op = dice.choice((20, 21, 22, 23))
+    """Every change of a good input; that is long work, so such cases are rare."""
+    op, make_input = dice.choice(CHANGES)
     reading = good_reading(dice)
     if op == 23:
         long = reading.leap and reading.minute == 0
         return case(op, raw_minute(reading, dice.randrange(32768), 61 if long else 60))
-    return case(op, CHANGES[op](reading))
+    return case(op, make_input(reading))
 
 
 def any_other(dice: random.Random) -> bytes:
@@ -195,7 +208,7 @@ def any_other(dice: random.Random) -> bytes:
         return a_change_case(dice)
     if luck < 0.01:
         return a_bad_case(dice)
-    return MAKERS[dice.randrange(1, 14)](dice)
+    return dice.choice(MAKERS)(dice)
 
 
 def make(seed: int, count: int) -> Iterator[bytes]:

@@ -1,18 +1,20 @@
-"""Cases on the two strings: published layouts, real leap seconds, offsets, what other decoders
-wrongly accept, every refusal of readers and writers, room and position part edges."""
+"""Cases on the two strings, as one reader takes both: published layouts, real leap seconds, offsets,
+what other decoders wrongly accept, every refusal of reader and writers, room and position part edges,
+and (case_door.py) which of the two a string is."""
 
 from datetime import datetime, timedelta
 from typing import Iterator
 
+import case_door
 from case_parts import (PLAIN, POSITION, REAL_LEAP_DAYS, case, local, raw_erlangen, raw_meinberg,
                         write_case)
 
 ODD_OFFSETS = (11, -7, -24, 28, 0, 1, -1, 2, 4, 27, -23)  # +05:30 -03:30 -12:00 +14:00 ..
 PUBLISHED = (
-    (1, b"\x02D:dd.mm.yy;T:w;U:hh.mm.ss;uvxy\x03"),  # 000, 003
-    (1, b"\x02D:tt.mm.jj;T:w;U:hh.mm.ss;uvxy\x03"),  # 001, 002
-    (2, b"\x02tt.mm.jj; w; hh:mm:ss; voo:oo; acdfg i; bbb.bbbbn llll.lllle hhhhm\x03"),  # 002
-    (2, b"\x02tt.mm.jj; w; hh:mm:ss; voo:oo; acdfg i; bbb.bbbbn lll.llll hhhhm\x03"),  # 003
+    b"\x02D:dd.mm.yy;T:w;U:hh.mm.ss;uvxy\x03",  # 000, 003
+    b"\x02D:tt.mm.jj;T:w;U:hh.mm.ss;uvxy\x03",  # 001, 002
+    b"\x02tt.mm.jj; w; hh:mm:ss; voo:oo; acdfg i; bbb.bbbbn llll.lllle hhhhm\x03",  # 002
+    b"\x02tt.mm.jj; w; hh:mm:ss; voo:oo; acdfg i; bbb.bbbbn lll.llll hhhhm\x03",  # 003
 )
 PUBLISHED_DATES = ((2008, 11, 17), (2009, 12, 1), (2096, 3, 31), (2096, 10, 27), (2096, 3, 25),
                    (2000, 1, 1), (2099, 12, 31), (2024, 2, 29), (2000, 2, 29))
@@ -20,8 +22,8 @@ PUBLISHED_DATES = ((2008, 11, 17), (2009, 12, 1), (2096, 3, 31), (2096, 10, 27),
 
 def published() -> Iterator[bytes]:
     """The layouts as printed, and filled in with the documents' own dates."""
-    for op, layout in PUBLISHED:
-        yield case(op, layout)
+    for layout in PUBLISHED:
+        yield case(1, layout)
     for year, month, day in PUBLISHED_DATES:
         for offset, summer in ((0, False), (2, False), (4, True)):
             reading = PLAIN._replace(year=year, month=month, day=day, offset=offset, summer=summer)
@@ -29,12 +31,12 @@ def published() -> Iterator[bytes]:
                 for coasting in (False, True):
                     reading = reading._replace(quality=quality)
                     yield case(1, raw_meinberg(reading, coasting=coasting))
-                    yield case(2, raw_erlangen(reading, coasting=coasting))
+                    yield case(1, raw_erlangen(reading, coasting=coasting))
     yield case(1, b"\x02D:31.12.16;T:6;U:23.59.60;  UA\x03")  # case 2 of document 01
     yield case(1, b"\x02D:29.02.24;T:4;U:12.34.56;    \x03")
     yield case(1, b"\x02D:29.02.23;T:4;U:12.34.56;    \x03")
-    yield case(2, raw_erlangen(position=b"bbb.bbbbn llll.lllle hhhhm"))
-    yield case(2, raw_erlangen(position=b"bbb.bbbbn lll.llll hhhhm"))
+    yield case(1, raw_erlangen(position=b"bbb.bbbbn llll.lllle hhhhm"))
+    yield case(1, raw_erlangen(position=b"bbb.bbbbn lll.llll hhhhm"))
 
 
 def leap_seconds() -> Iterator[bytes]:
@@ -50,7 +52,7 @@ def leap_seconds() -> Iterator[bytes]:
                     if offset in (0, 2, 4):
                         yield case(1, raw_meinberg(reading))
                         yield write_case(5, reading, 0, 40)
-                    yield case(2, raw_erlangen(reading))
+                    yield case(1, raw_erlangen(reading))
                     yield write_case(6, reading, 1, 70, POSITION)
                     yield case(9, write_case(7, reading)[3:15])
 
@@ -67,14 +69,14 @@ def letters() -> Iterator[bytes]:
                        for bit, letter in enumerate("#*S!A"))
         for second, i in ((56, "L"), (56, " ")) if number < 32 else ((60, "L"), (60, " ")):
             utc = datetime(2016, 12, 31, 23, 59)
-            yield case(2, raw_erlangen(local(utc, 2, second), letters=text[:5] + " " + i))
+            yield case(1, raw_erlangen(local(utc, 2, second), letters=text[:5] + " " + i))
     for offset in range(-128, 128):
         yield write_case(6, PLAIN._replace(offset=offset), 0, 68, POSITION)
         yield write_case(5, PLAIN._replace(offset=offset, summer=offset == 4), 0, 32)
     for sign in "+-":
         for hours in list(range(0, 20)) + [99]:
             for minutes in (0, 1, 15, 29, 30, 31, 45, 59, 60, 90, 99):
-                yield case(2, raw_erlangen(offset="%s%02d:%02d" % (sign, hours, minutes)))
+                yield case(1, raw_erlangen(offset="%s%02d:%02d" % (sign, hours, minutes)))
 
 
 def wrongly_accepted() -> Iterator[bytes]:
@@ -85,24 +87,24 @@ def wrongly_accepted() -> Iterator[bytes]:
             yield case(1, good[:place] + bytes((byte,)) + good[place + 1:])
     for place in (1, 2, 4, 5, 7, 8, 11, 14, 15, 17, 18, 20, 21, 25, 26, 28, 29):
         for byte in b"x /:;-+A\x00\xb2":
-            yield case(2, long_good[:place] + bytes((byte,)) + long_good[place + 1:])
+            yield case(1, long_good[:place] + bytes((byte,)) + long_good[place + 1:])
     for weekday in range(10):
         yield case(1, raw_meinberg(weekday=weekday))
-        yield case(2, raw_erlangen(weekday=weekday))
+        yield case(1, raw_erlangen(weekday=weekday))
     for day in range(1, 32):
         yield case(1, raw_meinberg(PLAIN._replace(month=6, day=day, hour=23, minute=59, second=60,
                                                   offset=0)))
-        yield case(2, raw_erlangen(PLAIN._replace(month=12, day=day, hour=0, minute=59, second=60)))
+        yield case(1, raw_erlangen(PLAIN._replace(month=12, day=day, hour=0, minute=59, second=60)))
     for minute in (0, 58, 59):
         for hour in range(24):
             for offset in (0, 2, 4):
                 reading = PLAIN._replace(month=12, day=31, hour=hour, minute=minute, second=60,
                                          offset=offset)
                 yield case(1, raw_meinberg(reading))
-                yield case(2, raw_erlangen(reading._replace(month=7, day=1)))
+                yield case(1, raw_erlangen(reading._replace(month=7, day=1)))
     for text in ("+99:99", "-00:00", "+00:00", "-00:30", "+0x:00", "+00:0x", " 01:00", "+01.00",
                  "+24:00", "-24:00", "+14:30", "-12:30", "+1 :00", "\xb101:00"):
-        yield case(2, raw_erlangen(offset=text))
+        yield case(1, raw_erlangen(offset=text))
 
 
 def refused_strings() -> Iterator[bytes]:
@@ -111,7 +113,7 @@ def refused_strings() -> Iterator[bytes]:
     for length in (0, 1, 31, 33, 60, 67, 68, 100):
         yield case(1, (good * 4)[:length])
     for length in (0, 1, 32, 66, 67, 69, 100, 136):
-        yield case(2, (long_good * 2)[:length])
+        yield case(1, (long_good * 2)[:length])
     for name, values in (("day", (0, 1, 30, 31, 32, 99)), ("month", (0, 1, 2, 12, 13, 99)),
                          ("hour", (0, 23, 24, 99)), ("minute", (0, 59, 60, 99)),
                          ("second", (0, 59, 60, 61, 99)), ("year", (2000, 2023, 2099))):
@@ -119,11 +121,11 @@ def refused_strings() -> Iterator[bytes]:
             reading = PLAIN._replace(**{name: value})
             for weekday in (-1, 0, 3, 7, 8, 9):
                 yield case(1, raw_meinberg(reading, weekday))
-                yield case(2, raw_erlangen(reading, weekday))
-                yield case(2, raw_erlangen(reading, weekday, "-00:00", "     " + " L"))
+                yield case(1, raw_erlangen(reading, weekday))
+                yield case(1, raw_erlangen(reading, weekday, "-00:00", "     " + " L"))
     for place in range(41, 67):
         for byte in (0, 3, 31, 32, 126, 127, 128, 255):
-            yield case(2, long_good[:place] + bytes((byte,)) + long_good[place + 1:])
+            yield case(1, long_good[:place] + bytes((byte,)) + long_good[place + 1:])
     for first in range(0, 32, 3):
         for second in range(first + 1, 32, 5):
             changed = bytearray(good)
@@ -173,12 +175,12 @@ def changes() -> Iterator[bytes]:
         yield case(20, raw_meinberg(reading))
     for reading in (leap, PLAIN._replace(offset=-7, change=True),
                     PLAIN._replace(offset=0, summer=True)):
-        yield case(21, raw_erlangen(reading, coasting=True))
+        yield case(20, raw_erlangen(reading, coasting=True))
     yield case(20, raw_meinberg()[:3])
-    yield case(21, b"")
+    yield case(20, b"")
 
 
 def make() -> Iterator[bytes]:
     for part in (published, leap_seconds, letters, wrongly_accepted, refused_strings, writers,
-                 changes):
+                 changes, case_door.make):
         yield from part()

@@ -11,14 +11,17 @@ import book
 import case_frames
 import case_random
 import cases
+import clock_string
 import dcf77
 import erlangen
 import ieee1344
 import meinberg
 from bridge import bridge
-from check_places import PLACES, check_places, check_seen, refusals_in
+from check_door import FILLED, check_bridged, check_door, check_string, check_written
+from check_places import PLACES, Asked, asked_in, check_places, check_seen, refusals_in
 from check_telegrams import check_read_back, check_telegrams
 from checks import Checks
+from clock_string import ToldString
 from pulse_readers import FrameReader
 from reading import Reading, Refusal, Told, stamp, utc_minute
 
@@ -35,7 +38,7 @@ SIXTY_STAMPED = {b"\x02D:29.02.24;T:4;U:23.59.60;  UA\x03": 762575225,
                  b"\x02D:30.04.24;T:2;U:23.59.60;  U \x03": 767845686}
 SIXTY_REFUSED = (b"\x02D:28.02.24;T:3;U:23.59.60;  UA\x03", b"\x02D:29.02.24;T:4;U:23.59.60;   A\x03",
                  b"\x02D:31.03.24;T:7;U:23.59.60;  SA\x03")
-FILLED = bytes([answers.FILLING])
+WHOLE_READERS = {3: ieee1344.read, 4: dcf77.read}  # by their ops
 
 
 def frame_of(reading: Reading) -> bytes:
@@ -52,14 +55,14 @@ def moment(year: int, month: int, day: int, hour: int, minute: int, second: int,
 def check_dates(check: Checks) -> None:
     """Cases 1 to 5 and 9."""
     check.that(stamp(moment(2000, 1, 1, 0, 0, 0, 0)) == 0, "case 1")
-    told = meinberg.read(CASE_TWO)
-    check.that(isinstance(told, Told) and stamp(told.reading) == 536550209, "case 2")
+    told = clock_string.read(CASE_TWO)
+    check.that(isinstance(told, ToldString) and stamp(told.reading) == 536550209, "case 2")
     check.that(stamp(moment(2017, 1, 1, 0, 59, 60, 2)) == 536550209, "case 3, leap second")
     check.that(stamp(moment(2017, 1, 1, 0, 0, 0, 0)) == 536550210, "case 3, midnight")
     check.that(stamp(moment(2017, 1, 2, 0, 59, 60, 2)) == Refusal(9), "case 4")
     good = b"\x02D:29.02.24;T:4;U:12.34.56;    \x03"
-    check.that(isinstance(meinberg.read(good), Told), "case 5, 2024")
-    check.that(meinberg.read(good.replace(b"24;T", b"23;T")) == Refusal(16, 3),
+    check.that(isinstance(clock_string.read(good), ToldString), "case 5, 2024")
+    check.that(clock_string.read(good.replace(b"24;T", b"23;T")) == Refusal(16, 3),
                "case 5, 2023")
     early = moment(2000, 1, 1, 0, 30, 0, 2)
     check.that(isinstance(ieee1344.read(frame_of(early)), Told), "case 9, accepted")
@@ -70,14 +73,15 @@ def check_dates(check: Checks) -> None:
 def check_month_ends(check: Checks) -> None:
     """L3: second 60 at the end of any UTC month, the bridge's pending bit and the long minute."""
     for string, value in SIXTY_STAMPED.items():
-        told = meinberg.read(string)
-        check.that(isinstance(told, Told) and stamp(told.reading) == value, "accepted %r" % string)
+        told = clock_string.read(string)
+        check.that(isinstance(told, ToldString) and stamp(told.reading) == value,
+                   "accepted %r" % string)
     for string in SIXTY_REFUSED:
-        check.that(meinberg.read(string) == Refusal(9, 24), "refused %r" % string)
+        check.that(clock_string.read(string) == Refusal(9, 24), "refused %r" % string)
     for second, pending in (("00", 0), ("01", 1), ("59", 1), ("60", 0)):
         frame = bytearray(ieee1344.LENGTH)
         string = ("\x02D:30.04.24;T:2;U:23.59.%s;  UA\x03" % second).encode()
-        check.that(bridge("Meinberg", string, frame) == 100, "bridged at " + second)
+        check.that(bridge(string, frame) == 100, "bridged at " + second)
         check.that(frame[60] == pending, "pending at " + second)
     first = moment(2024, 3, 1, 1, 0, 0, 2)._replace(leap=True)
     marks = bytearray(61)
@@ -145,36 +149,43 @@ def check_order(check: Checks) -> None:
         check.that((one < two) == (first < second), "stamp order at %s" % (second,))
 
 
-def written_back(op: int, told: Told, payload: bytes) -> bytes:
-    """What the op's writer makes of an accepted reading, in a buffer one byte too long."""
-    output = bytearray(FILLED * (len(payload) + 1))
-    rest = erlangen.position_part(payload) if op == 2 else b""
-    beside = 0 if told.beside is None else int(told.beside)
-    answers.WRITERS[op + 4](told.reading, beside, rest, output)
-    return bytes(output)
+def check_read(check: Checks, op: int, payload: bytes, line: str) -> None:
+    """What is read, written back to a buffer one byte too long."""
+    if op == 1:
+        check_string(check, payload, line)
+    elif line.startswith("time"):
+        told = WHOLE_READERS[op](payload)
+        output = bytearray(FILLED * (len(payload) + 1))
+        answers.WRITERS[op + 4](told.reading, told.beside, b"", output)
+        check.that(output == payload + FILLED, "write back " + line)
+
+
+def check_write(check: Checks, op: int, payload: bytes, line: str) -> None:
+    """What is written, read back; and the rest of the buffer is as it was."""
+    words = line.split()
+    output = b"" if words[-1] == "-" else bytes.fromhex(words[-1])
+    length = int(words[1]) if words[0] == "wrote" else 0
+    check.that(output[length:] == FILLED * (len(output) - length), "untouched " + line)
+    if op == 10:
+        check_bridged(check, payload, line)
+    elif words[0] != "wrote":
+        return
+    elif op == 15:
+        check_read_back(check, payload, output[:length])
+    elif op in (5, 6):
+        check_written(check, op, payload, output[:length])
+    else:
+        head = int.from_bytes(payload[12:14], "little") if op == 8 else None
+        told = WHOLE_READERS[op - 4](output[:length])
+        check.that(told == Told(answers.reading_of(payload), head), "read back " + line)
 
 
 def check_round_trip(check: Checks, op: int, payload: bytes, line: str) -> None:
     """What is read writes back to the same bytes; what is written reads back the same."""
-    readers = {1: meinberg.read, 2: erlangen.read, 3: ieee1344.read, 4: dcf77.read}
-    if op in readers and line.startswith("time"):
-        told = readers[op](payload)
-        check.that(written_back(op, told, payload) == payload + FILLED, "write back " + line)
-    if op in (5, 6, 7, 8, 10, 15):
-        words = line.split()
-        output = b"" if words[-1] == "-" else bytes.fromhex(words[-1])
-        length = int(words[1]) if words[0] == "wrote" else 0
-        check.that(output[length:] == FILLED * (len(output) - length), "untouched " + line)
-        if words[0] == "wrote" and op == 15:
-            check_read_back(check, payload, output[:length])
-        if words[0] == "wrote" and op < 10:
-            told = readers[op - 4](output[:length])
-            beside = int.from_bytes(payload[12:14], "little")
-            same = isinstance(told, Told) and told.reading == answers.reading_of(payload)
-            check.that(same and int(told.beside or 0) == (beside if op != 7 else 0),
-                       "read back " + line)
-            if op == 6:
-                check.that(erlangen.position_part(output[:length]) == payload[15:], "part " + line)
+    if op in (1, 3, 4):
+        check_read(check, op, payload, line)
+    elif op in (5, 6, 7, 8, 10, 15):
+        check_write(check, op, payload, line)
 
 
 def check_changes(check: Checks, op: int, payload: bytes, line: str) -> None:
@@ -184,20 +195,20 @@ def check_changes(check: Checks, op: int, payload: bytes, line: str) -> None:
     listed = [word.split("=")[1] for word in words[1:-2]]
     check.that(len(listed) + int(words[-1]) == 255 * len(payload), "count of changes")
     refused = [tuple(map(int, word.split("."))) for word in listed if word != "time"]
-    places = PLACES[op - 19]
+    places = PLACES[asked_in(op - 19, payload)]
     check.that(all(place in places.get(code, ()) for code, place in refused), "a change's refusal")
     if op == 22:
         check.that("time" not in listed, "a changed frame accepted")
 
 
-def allowed(op: int, line: str) -> bool:
+def allowed(asked: Asked, line: str) -> bool:
     """Whether the papers allow each refusal of an answer line, its code and its place."""
-    return all(place in PLACES[op].get(code, ()) for code, place in refusals_in(op, line))
+    return all(place in PLACES[asked].get(code, ()) for code, place in refusals_in(asked[0], line))
 
 
 def check_streams(check: Checks) -> None:
     """Runs every named stream and a random one; afterwards looks at the refusals that came."""
-    seen: Dict[int, Set[Tuple[int, int]]] = {op: set() for op in PLACES}
+    seen: Dict[Asked, Set[Tuple[int, int]]] = {asked: set() for asked in PLACES}
     makers = {**cases.NAMED, "random": lambda: case_random.make(3, 4000)}
     for name, make in makers.items():
         stream = b"".join(make())
@@ -210,16 +221,17 @@ def check_streams(check: Checks) -> None:
             if op >= 20:
                 check_changes(check, op, payload, line)
                 continue
-            check.that(allowed(op, line), "a strange refusal: " + line)
+            asked = asked_in(op, payload)
+            check.that(allowed(asked, line), "a strange refusal: " + line)
             if name != "random":
-                seen[op].update(refusals_in(op, line))
+                seen[asked].update(refusals_in(op, line))
     check_seen(check, seen)
 
 
 def main() -> None:
     check = Checks()
     for part in (check_dates, check_month_ends, check_frames, check_layouts, check_listing,
-                 check_places, check_telegrams, check_order, check_streams):
+                 check_places, check_door, check_telegrams, check_order, check_streams):
         part(check)
     for what in check.failed[:50]:
         print("failed: " + what)

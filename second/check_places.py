@@ -1,10 +1,11 @@
 """Self tests of codes and places: literal inputs for every place of every format, for the order of
-the codes and for the days of a bad month; and the table of the places at which each op gives each
-code, which the streams of cases are held against."""
+the codes and for the days of a bad month; and the table of the places at which each op, and of the
+strings each length, gives each code, which the streams of cases are held against."""
 
 from typing import Dict, Iterator, Sequence, Set, Tuple
 
 import book
+import clock_string
 import dcf77
 import erlangen
 import ieee1344
@@ -19,9 +20,8 @@ from pulse_readers import FrameReader, MinuteReader
 from reading import Refusal, stamp
 
 Table = Dict[int, Set[int]]
-MEINBERG: Table = {1: {0}, 2: set(range(32)), 15: {18, 21, 24}, 16: {3, 6, 14}, 6: {14}, 9: {24}}
-ERLANGEN: Table = {1: {0}, 2: set(range(68)), 15: {14, 17, 20}, 16: {1, 4, 11}, 6: {11}, 8: {24},
-                   9: {20}}
+MEINBERG: Table = {2: set(range(32)), 15: {18, 21, 24}, 16: {3, 6, 14}, 6: {14}, 9: {24}}
+ERLANGEN: Table = {2: set(range(68)), 15: {14, 17, 20}, 16: {1, 4, 11}, 6: {11}, 8: {24}, 9: {20}}
 FRAME: Table = {2: set(range(100)), 3: {1, 10, 20, 30, 50}, 4: {75}, 15: {1, 10, 20}, 16: {30},
                 7: {80}, 8: {64}, 9: {1}, 10: {61}}
 MINUTE: Table = {2: set(range(61)), 3: {21, 29, 36, 45, 50}, 4: {28, 35, 58}, 15: {21, 29},
@@ -38,17 +38,21 @@ def joined(*tables: Table) -> Table:
             for code in set().union(*tables)}
 
 
-# op -> code -> every place; each must occur in the named streams, and no other may. Where a byte is
-# wrong (2), any place of the input, or of the position part, may be the lowest.
-PLACES: Dict[int, Table] = {
-    1: MEINBERG, 2: ERLANGEN, 3: joined(FRAME, placeless(1)), 4: joined(MINUTE, placeless(1)),
-    5: placeless(1, 15, 16, 17, 8, 9, 11),
-    6: joined(placeless(1, 15, 16, 17, 8, 9, 11), {2: set(range(26))}),
-    7: placeless(1, 15, 16, 17, 8, 9), 8: placeless(1, 15, 16, 17, 8, 9, 11),
-    9: placeless(15, 16, 17, 8, 9, 12), 10: joined(MEINBERG, ERLANGEN), 11: FRAME, 12: MINUTE,
-    13: {code: places for code, places in joined(
-        MEINBERG, ERLANGEN, FRAME, MINUTE, placeless(12, 13, 14)).items() if code != 1},
-    14: {}, 15: placeless(1, 18, 15, 16, 17, 9, 12)}
+Asked = Tuple[int, int]
+# What is asked (the op, and of a clock string its length, 0 for any that neither string has) -> code ->
+# every place; each must occur in the named streams, and no other may. Where a byte is wrong (2), any
+# place of the input, or of the position part, may be the lowest.
+PLACES: Dict[Asked, Table] = {
+    (1, 32): MEINBERG, (1, 68): ERLANGEN, (1, 0): placeless(1),
+    (3, 0): joined(FRAME, placeless(1)), (4, 0): joined(MINUTE, placeless(1)),
+    (5, 0): placeless(1, 15, 16, 17, 8, 9, 11),
+    (6, 0): joined(placeless(1, 15, 16, 17, 8, 9, 11), {2: set(range(26))}),
+    (7, 0): placeless(1, 15, 16, 17, 8, 9), (8, 0): placeless(1, 15, 16, 17, 8, 9, 11),
+    (9, 0): placeless(15, 16, 17, 8, 9, 12),
+    (10, 32): joined(MEINBERG, placeless(1)), (10, 68): joined(ERLANGEN, placeless(1)),
+    (10, 0): placeless(1), (11, 0): FRAME, (12, 0): MINUTE,
+    (13, 0): joined(MEINBERG, ERLANGEN, FRAME, MINUTE, placeless(12, 13, 14)),
+    (14, 0): {}, (15, 0): placeless(1, 18, 15, 16, 17, 9, 12)}
 
 # Date, weekday and time; code, its place in Meinberg's string, its place in Uni Erlangen's.
 STRINGS = (
@@ -104,7 +108,8 @@ HEAD_ORDER = (({}, 17), ({"minute": 60}, 15), ({"day": 0}, 16), ({"quality": 16}
 
 
 def check_refusal(check: Checks, kind: int, body: bytes, due: Tuple[int, int]) -> None:
-    """A refusal as the reader gives it, a book's listing, the bridge, and the pulse readers."""
+    """A refusal as the reader gives it, a book's listing, the bridge and the pulse readers; a refused
+    string has no position part."""
     body = bytes(body)
     name = "%d %r" % (kind, body)
     check.that(book.KINDS[kind][1](body) == due, "place " + name)
@@ -112,8 +117,8 @@ def check_refusal(check: Checks, kind: int, body: bytes, due: Tuple[int, int]) -
     check.that(listed == ["0 %d no %d %d" % ((kind,) + due)], "listed " + name)
     if kind in (1, 2):
         frame = bytearray(100)
-        bridged = bridge({1: "Meinberg", 2: "Uni Erlangen"}[kind], body, frame)
-        check.that(bridged == due and frame == bytearray(100), "bridged " + name)
+        check.that(bridge(body, frame) == due and frame == bytearray(100), "bridged " + name)
+        check.that(clock_string.position_part(body) == b"", "part " + name)
     else:
         reader = FrameReader() if kind == 3 else MinuteReader()
         said = [reader.take(pulse) for pulse in (body if kind == 3 else b"\x02" + body)]
@@ -180,6 +185,13 @@ def check_writers(check: Checks) -> None:
         check.that(refusal == (code, 0), "a head too large with %s" % fault)
 
 
+def asked_in(op: int, payload: bytes) -> Asked:
+    """What a case asks, as the table of places has it."""
+    strings = {1: payload, 10: payload[1:]}
+    length = len(strings.get(op, b""))
+    return op, length if (op, length) in PLACES else 0
+
+
 def refusals_in(op: int, line: str) -> Iterator[Tuple[int, int]]:
     """The refusals of an answer line, each its code and place."""
     if op == 13:
@@ -197,13 +209,14 @@ def refusals_in(op: int, line: str) -> Iterator[Tuple[int, int]]:
         yield int(words[1]), int(words[2])
 
 
-def check_seen(check: Checks, seen: Dict[int, Set[Tuple[int, int]]]) -> None:
-    """What came of the named streams: every code of an op at every place of it, and no other."""
-    for op, table in PLACES.items():
+def check_seen(check: Checks, seen: Dict[Asked, Set[Tuple[int, int]]]) -> None:
+    """What came of the named streams: every code of what was asked at every place of it, and no
+    other."""
+    for asked, table in PLACES.items():
         due = {(code, place) for code, places in table.items() for place in places if code != 2}
-        came = {refusal for refusal in seen[op] if refusal[0] != 2}
-        check.that(came == due, "refusals of op %d: %s" % (op, sorted(came ^ due)))
-        check.that((2 in table) == (came != seen[op]), "wrong bytes of op %d" % op)
+        came = {refusal for refusal in seen[asked] if refusal[0] != 2}
+        check.that(came == due, "refusals of op %d, length %d: %s" % (*asked, sorted(came ^ due)))
+        check.that((2 in table) == (came != seen[asked]), "wrong bytes of op %d, length %d" % asked)
     codes = {code for refusals in seen.values() for code, _ in refusals}
     check.that(codes == {1, 2, 3, 4, *range(6, 19)}, "every code of the papers, and not 5")
 

@@ -1,5 +1,5 @@
 """The Uni Erlangen (NTP) string: 68 bytes with the offset in it and 26 position bytes at 41..66.
-Reads and writes it, and hands back the position part, as document 01 draws it."""
+Reads and writes it as document 01 draws it."""
 
 from typing import Optional, Union
 
@@ -41,7 +41,8 @@ def said_offset(data: bytes) -> Optional[int]:
 
 
 def read(data: bytes) -> Answer:
-    """The reading with coasting beside it, or the first refusal."""
+    """The reading with coasting beside it, or the first refusal.
+    For the door alone: clock_string.read is what reads a string."""
     refusal = form_refusal(data, ALLOWED)
     if refusal is not None:
         return refusal
@@ -61,13 +62,6 @@ def read(data: bytes) -> Answer:
     if (data[38] == ord("L")) != (reading.second == 60):
         return Refusal(9, PLACES["second"])
     return second_refusal(reading, PLACES["second"]) or Told(reading, data[33] == ord("*"))
-
-
-def position_part(data: bytes) -> bytes:
-    """Bytes 41..66 of an accepted string; empty for a refused one."""
-    if isinstance(read(data), Refusal):
-        return b""
-    return bytes(data[POSITION_START:POSITION_START + POSITION_LENGTH])
 
 
 def position_refusal(position: bytes) -> Optional[Refusal]:

@@ -26,7 +26,8 @@ ANNOUNCEMENTS = {"!": (False, True), "A": (True, False), " ": (False, False)}
 
 
 def read(data: bytes) -> Answer:
-    """The reading with coasting beside it, or the first refusal."""
+    """The reading with coasting beside it, or the first refusal.
+    For the door alone: clock_string.read is what reads a string."""
     refusal = form_refusal(data, ALLOWED)
     if refusal is not None:
         return refusal

@@ -43,11 +43,11 @@ static void put_refusal(char between, struct answer a)
     put_field(between, (unsigned)a.value);
 }
 
-static void put_time(char between, const struct reading *r)
+static void put_time(const char *first, char between, const struct reading *r)
 {
     const unsigned before[] = {r->year, r->month, r->day, r->hour, r->minute, r->second};
     const unsigned after[] = {r->summer, r->leap, r->change, r->quality};
-    put("time");
+    put(first);
     for (size_t i = 0; i < 6; i++)
         put_field(between, before[i]);
     line[end++] = (uint8_t)between;
@@ -58,23 +58,34 @@ static void put_time(char between, const struct reading *r)
         put_field(between, after[i]);
 }
 
-static void put_read(uint8_t op, const uint8_t *s, size_t length)
+/* Only an accepted Uni Erlangen string has a position part. */
+static void put_string(const uint8_t *s, size_t length)
 {
+    enum kind kind = MEINBERG;
     struct reading r;
     bool coasting;
+    struct answer a = string_read(s, length, &kind, &r, &coasting);
+    if (a.code)
+        put_refusal(' ', a);
+    else {
+        put_time(kind == MEINBERG ? "meinberg" : "erlangen", ' ', &r);
+        put_field(' ', coasting);
+    }
+    put(" part ");
+    put_hex(s + POSITION_START, !a.code && kind == ERLANGEN ? POSITION_LENGTH : 0);
+}
+
+static void put_pulses(uint8_t op, const uint8_t *s, size_t length)
+{
+    struct reading r;
     uint16_t head;
-    struct answer a = op == 1 ? meinberg_read(s, length, &r, &coasting) : op == 2 ? erlangen_read(s, length, &r, &coasting)
-        : op == 3 ? frame_read(s, length, &r) : minute_read(s, length, &r, &head);
+    struct answer a = op == 3 ? frame_read(s, length, &r) : minute_read(s, length, &r, &head);
     if (a.code)
         put_refusal(' ', a);
     else
-        put_time(' ', &r);
-    if (!a.code && op != 3)
-        put_field(' ', op == 4 ? head : coasting);
-    if (op == 2) {
-        put(" part ");
-        put_hex(s + POSITION_START, a.code ? 0 : POSITION_LENGTH);
-    }
+        put_time("time", ' ', &r);
+    if (!a.code && op == 4)
+        put_field(' ', head);
 }
 
 static void put_written(struct answer a, const uint8_t *lent, size_t room)
@@ -114,7 +125,7 @@ static void put_bridged(const uint8_t *p, size_t length)
 {
     uint8_t lent[LENT];
     memset(lent, 0xA5, sizeof lent);
-    put_written(bridge(p[0] == 1 ? MEINBERG : ERLANGEN, p + 2, length - 2, lent, p[1]), lent, p[1]);
+    put_written(bridge(p + 1, length - 1, lent, p[0]), lent, p[0]);
 }
 
 static void put_said(size_t at, struct answer a, const struct reading *r)
@@ -124,7 +135,7 @@ static void put_said(size_t at, struct answer a, const struct reading *r)
     if (a.code)
         put_refusal(',', a);
     else
-        put_time(',', r);
+        put_time("time", ',', r);
 }
 
 static void put_frames(const uint8_t *pulses, size_t count)
@@ -157,11 +168,13 @@ static void put_minutes(const uint8_t *symbols, size_t count)
 
 static void put_answer(uint8_t op, const uint8_t *payload, size_t length)
 {
-    if (op >= 1 && op <= 4)
-        put_read(op, payload, length);
+    if (op == 1)
+        put_string(payload, length);
+    else if (op == 3 || op == 4)
+        put_pulses(op, payload, length);
     else if (op >= 5 && op <= 8 && length >= WRITER_LENGTH)
         put_write(op, payload, length);
-    else if (op == 10 && length >= 2 && payload[0] >= 1 && payload[0] <= 2)
+    else if (op == 10 && length >= 1)
         put_bridged(payload, length);
     else if (op == 11)
         put_frames(payload, length);

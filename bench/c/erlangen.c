@@ -50,10 +50,9 @@ static bool said_offset(const uint8_t *s, int8_t *offset)
     return offset_is_good(said);
 }
 
-struct answer erlangen_read(const uint8_t *s, size_t length, struct reading *r, bool *coasting)
+/* For the door alone. */
+struct answer erlangen_read(const uint8_t *s, struct reading *r, bool *coasting)
 {
-    if (length != ERLANGEN_LENGTH)
-        return refused(WRONG_LENGTH);
     size_t bad = first_bad_place(s);
     if (bad < ERLANGEN_LENGTH)
         return refused_at(WRONG_BYTE, bad);

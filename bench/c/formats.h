@@ -1,5 +1,5 @@
-/* The formats of the C baseline: readers, writers, the telegram made from a summer rule, the bridge and the pulse readers. A
-   reader's answer has code 0 where it filled in the reading, and what stands beside it. */
+/* The formats of the C baseline: readers, of which one takes both clock strings, writers, the telegram made from a summer rule,
+   the bridge and the pulse readers. A reader's answer has code 0 where it filled in the reading, and what stands beside it. */
 #ifndef FORMATS_H
 #define FORMATS_H
 
@@ -8,10 +8,15 @@
 enum { MEINBERG_LENGTH = 32, ERLANGEN_LENGTH = 68, POSITION_START = 41, POSITION_LENGTH = 26,
        FRAME_LENGTH = 100, MINUTE_LENGTH = 60, LONG_MINUTE_LENGTH = 61 };
 
-struct answer meinberg_read(const uint8_t *s, size_t length, struct reading *r, bool *coasting);
-struct answer meinberg_write(const struct reading *r, bool coasting, uint8_t *out, size_t room);
+/* Which of the two clock strings; the numbers are those of a book. */
+enum kind { MEINBERG = 1, ERLANGEN };
+/* The one door for both: goes by the length, and says which of them it is. */
+struct answer string_read(const uint8_t *s, size_t length, enum kind *kind, struct reading *r, bool *coasting);
+/* For the door alone, which has looked at the length. */
+struct answer meinberg_read(const uint8_t *s, struct reading *r, bool *coasting);
+struct answer erlangen_read(const uint8_t *s, struct reading *r, bool *coasting);
 
-struct answer erlangen_read(const uint8_t *s, size_t length, struct reading *r, bool *coasting);
+struct answer meinberg_write(const struct reading *r, bool coasting, uint8_t *out, size_t room);
 struct answer erlangen_write(const struct reading *r, bool coasting, const uint8_t *position, size_t position_length,
                              uint8_t *out, size_t room);
 
@@ -44,8 +49,8 @@ struct sent_minute {
 struct answer telegram_write(const struct summer_rule *rule, const struct leap_second *leap, const struct sent_minute *sent,
                              uint16_t head, uint8_t *out, size_t room);
 
-enum kind { MEINBERG, ERLANGEN };
-struct answer bridge(enum kind kind, const uint8_t *s, size_t length, uint8_t *out, size_t room);
+/* Reads a string, whichever it is, and writes the frame of its reading. */
+struct answer bridge(const uint8_t *s, size_t length, uint8_t *out, size_t room);
 
 /* The pulse readers say true where the pulse closed a frame or a minute, and then the answer. */
 struct frame_reader {

@@ -39,13 +39,15 @@ static void put_line(size_t at, uint8_t kind, const char *word, uint64_t value, 
     put("\n");
 }
 
+/* The kind has fixed the length, and so which of the two strings the door reads. */
 static struct answer read_body(uint8_t kind, const uint8_t *body, size_t length, struct reading *r)
 {
+    enum kind string;
     bool coasting;
     uint16_t head;
     switch (kind) {
-    case 1: return meinberg_read(body, length, r, &coasting);
-    case 2: return erlangen_read(body, length, r, &coasting);
+    case 1:
+    case 2: return string_read(body, length, &string, r, &coasting);
     case 3: return frame_read(body, length, r);
     default: return minute_read(body, length, r, &head);
     }

@@ -22,10 +22,9 @@ static size_t first_bad_place(const uint8_t *s)
     return s[LAST] == 3 ? MEINBERG_LENGTH : LAST;
 }
 
-struct answer meinberg_read(const uint8_t *s, size_t length, struct reading *r, bool *coasting)
+/* For the door alone. */
+struct answer meinberg_read(const uint8_t *s, struct reading *r, bool *coasting)
 {
-    if (length != MEINBERG_LENGTH)
-        return refused(WRONG_LENGTH);
     size_t bad = first_bad_place(s);
     if (bad < MEINBERG_LENGTH)
         return refused_at(WRONG_BYTE, bad);

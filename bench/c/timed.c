@@ -31,14 +31,13 @@ __attribute__((noinline)) static uint64_t read_one(uint8_t op, const uint8_t *re
     struct reading r;
     bool coasting = false;
     uint16_t head = 0;
+    enum kind kind = MEINBERG;
     struct answer a;
     switch (op) {
-    case 1: a = meinberg_read(record, size, &r, &coasting); return of_read(a, &r, coasting);
-    case 2: a = erlangen_read(record, size, &r, &coasting); return of_read(a, &r, coasting);
+    case 1: a = string_read(record, size, &kind, &r, &coasting); return of_read(a, &r, coasting + (unsigned)kind);
     case 3: a = frame_read(record, size, &r); return of_read(a, &r, 0);
     case 4: a = minute_read(record, size, &r, &head); return of_read(a, &r, head);
-    case 13: return of_answer(bridge(MEINBERG, record, size, page, PAGE));
-    case 14: return of_answer(bridge(ERLANGEN, record, size, page, PAGE));
+    case 13: return of_answer(bridge(record, size, page, PAGE));
     case 15: return of_telegram(record, size, page);
     default: return size;
     }

@@ -1,7 +1,7 @@
 -- What a body that its reader accepts tells: its reading passes the checks of every reading, so that it has a stamp or its
 -- stamp is refused by 12 alone.
 use mathlib.Core.Path.{_≡_, refl}
-use mathlib.Core.Bool.{Bool, true, false, cond}
+use mathlib.Core.Bool.{Bool, true, false, cond, _||_}
 use mathlib.Core.List.{List}
 use mathlib.Core.Logic.{_⊎_, inl, inr}
 use Prim.Native.Nat.{ℕ}
@@ -15,18 +15,17 @@ use Rattle.reading.specs.Checks.{checkedOf}
 use Rattle.reading.specs.Stamps.{hasStamp, stampNumber}
 use Rattle.reading.proofs.CheckLaws.{clash}
 use Rattle.reading.proofs.StampLaws.{is-stamp, refused-by-12}
-use Rattle.strings.specs.declared.Answer.{Answer as StringAnswer}
-use Rattle.strings.specs.declared.Answer.the-variants.{Time as StringTime, No as StringNo}
+use Rattle.strings.specs.declared.Answer.the-variants.{Time as StringTime}
+use Rattle.clock_string.specs.declared.Answer.{Answer as StringAnswer}
+use Rattle.clock_string.specs.declared.Answer.the-variants.{Meinberg, Erlangen, No as StringNo}
+use Rattle.clock_string.specs.Reader.{readString, whichever}
+use Rattle.clock_string.proofs.ReadLaws.{accepted-checked as string-checked}
 use Rattle.irig.specs.declared.Answer.{Answer as FrameAnswer}
 use Rattle.irig.specs.declared.Answer.the-variants.{Time as FrameTime, No as FrameNo}
 use Rattle.dcf77.specs.declared.Answer.{Answer as MinuteAnswer}
 use Rattle.dcf77.specs.declared.Answer.the-variants.{Time as MinuteTime, No as MinuteNo}
-use Rattle.meinberg.specs.Meaning.{readMeinberg}
-use Rattle.erlangen.specs.Meaning.{readErlangen}
 use Rattle.irig.specs.Faults.{readFrame}
 use Rattle.dcf77.specs.Reader.{readDcf77}
-use Rattle.meinberg.proofs.RoundTrip.{accepted-checked as meinberg-checked}
-use Rattle.erlangen.proofs.Promises.{accepted-checked as erlangen-checked}
 use Rattle.irig.proofs.RoundTrip.{accepted-checked as frame-checked}
 use Rattle.dcf77.proofs.RoundTrip.{accepted-checked as minute-checked}
 use Rattle.book.specs.declared.Said.the-variants.{Time}
@@ -35,8 +34,9 @@ use Rattle.book.specs.declared.Stamping.the-variants.{Stamped, Unstamped
 use Rattle.book.specs.Body.{ofString, ofFrame, ofMinute, readBody}
 use Rattle.book.specs.Stamps.{stampingOf}
 
-string-time : (a : StringAnswer) (r : Reading) → ofString a ≡ Time r → (c : Bool) × (a ≡ StringTime r c)
-string-time (StringTime q c) r e = (c, cc)
+string-time : (a : StringAnswer) (r : Reading) → ofString a ≡ Time r → (c : Bool) × (whichever a ≡ StringTime r c)
+string-time (Meinberg q c) r e = (c, cc)
+string-time (Erlangen q c) r e = (c, cc)
 string-time (StringNo x) r e = let z : _≡_ {A = ℕ} 0 1 = cc in clash z
 
 frame-time : (a : FrameAnswer) (r : Reading) → ofFrame a ≡ Time r → a ≡ FrameTime r
@@ -49,17 +49,13 @@ minute-time (MinuteNo x) r e = let z : _≡_ {A = ℕ} 0 1 = cc in clash z
 
 pub accepted-checked : (base kind : ℕ) (s : List ℕ) (r : Reading) → readBody base kind s ≡ Time r → checkedOf base r ≡ Good
 unfolding readBody
-accepted-checked base kind s r e = go (eqb kind 1) (eqb kind 2) (eqb kind 3) e
+accepted-checked base kind s r e = go (eqb kind 1 || eqb kind 2) (eqb kind 3) e
   where
-    go : (a b c : Bool)
-        → cond a (ofString (readMeinberg base s))
-        (cond b (ofString (readErlangen base s)) (cond c (ofFrame (readFrame base s)) (ofMinute (readDcf77 base s))))
-        ≡ Time r
+    go : (a b : Bool) → cond a (ofString (readString base s)) (cond b (ofFrame (readFrame base s)) (ofMinute (readDcf77 base s))) ≡ Time r
         → checkedOf base r ≡ Good
-    go true b c e = let p = string-time (readMeinberg base s) r e in meinberg-checked base s r (p .0) (p .1)
-    go false true c e = let p = string-time (readErlangen base s) r e in erlangen-checked base s r (p .0) (p .1)
-    go false false true e = frame-checked base s r (frame-time (readFrame base s) r e)
-    go false false false e = let p = minute-time (readDcf77 base s) r e in minute-checked base s r (p .0) (p .1)
+    go true b e = let p = string-time (readString base s) r e in string-checked base s r (p .0) (p .1)
+    go false true e = frame-checked base s r (frame-time (readFrame base s) r e)
+    go false false e = let p = minute-time (readDcf77 base s) r e in minute-checked base s r (p .0) (p .1)
 
 -- "An accepted body whose stamp is refused is listed as `no 12 0`."
 pub stamped-or-12 : (base kind : ℕ) (s : List ℕ) (r : Reading) → readBody base kind s ≡ Time r

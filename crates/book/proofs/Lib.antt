@@ -4,3 +4,4 @@ pub mod BodyLaws
 pub mod StopLaws
 pub mod Worked
 pub mod Unique
+pub mod KindLaws

@@ -1,7 +1,7 @@
 -- Codes 13 and 14 are the book's own: no reader and no stamp answers with them, so that they alone tell a caller that the
 -- walk is over.
 use mathlib.Core.Path.{_≡_, refl, sym, ap, _∙_}
-use mathlib.Core.Bool.{Bool, true, false, cond}
+use mathlib.Core.Bool.{Bool, true, false, cond, _||_}
 use mathlib.Core.List.{List, [], _∷_}
 use mathlib.Core.Logic.{_⊎_, inl, inr}
 use Prim.Native.Nat.{ℕ, suc}
@@ -14,17 +14,13 @@ use Rattle.reading.specs.declared.Fault.the-variants.{OutsideYears, CutShort, U
 use Rattle.reading.specs.Faults.{number}
 use Rattle.reading.specs.Universal.{utcOf}
 use Rattle.reading.specs.Stamps.{stampNumber}
-use Rattle.reading.specs.Refusals.{Objection}
 use Rattle.reading.proofs.CheckLaws.{clash}
-use Rattle.strings.specs.declared.Answer.{Answer as StringAnswer}
-use Rattle.strings.specs.declared.Answer.the-variants.{Time as StringTime, No as StringNo}
 use Rattle.strings.specs.Checks.{AnswerOwed as StringOwed}
-use Rattle.meinberg.specs.Meaning.{readMeinberg}
-use Rattle.meinberg.specs.Objections.{readCodes as meinbergCodes}
-use Rattle.meinberg.proofs.OwedLaws.{read-owed as meinberg-owed}
-use Rattle.erlangen.specs.Meaning.{readErlangen}
-use Rattle.erlangen.specs.Objections.{readCodes as erlangenCodes}
-use Rattle.erlangen.proofs.OwedLaws.{read-owed as erlangen-owed}
+use Rattle.clock_string.specs.declared.Answer.{Answer as StringAnswer}
+use Rattle.clock_string.specs.declared.Answer.the-variants.{Meinberg, Erlangen, No as StringNo}
+use Rattle.clock_string.specs.Reader.{readString, whichever}
+use Rattle.clock_string.specs.Objections.{readObjections as stringObjections, readCodes as stringCodes}
+use Rattle.clock_string.proofs.OwedLaws.{read-owed as string-owed}
 use Rattle.irig.specs.declared.Answer.{Answer as FrameAnswer}
 use Rattle.irig.specs.declared.Answer.the-variants.{Time as FrameTime, No as FrameNo}
 use Rattle.irig.specs.Faults.{readFrame}
@@ -65,10 +61,13 @@ by-12 : (x : Refusal) → x ≡ number OutsideYears → NotOwn x
 unfolding number
 by-12 x e = not-own (12 ∷ []) refl refl x (ap (λ (z : Refusal). among (z .code) (12 ∷ [])) e)
 
-string-refused : (l : List Objection) (codes : List ℕ) → among 13 codes ≡ false → among 14 codes ≡ false
-    → (a : StringAnswer) → StringOwed l codes a → (x : Refusal) → ofString a ≡ No x → NotOwn x
-string-refused l codes c d (StringTime r coasting) p x e = let z : _≡_ {A = ℕ} 0 1 = cc in clash z
-string-refused l codes c d (StringNo y) p x e = not-own codes c d x (let same : y ≡ x = cc in rw (sym same) (p .1))
+string-refused : (s : List ℕ) (base : ℕ) (x : Refusal) → ofString (readString base s) ≡ No x → NotOwn x
+string-refused s base x e = go (readString base s) (string-owed base s) e
+  where
+    go : (a : StringAnswer) → StringOwed (stringObjections base s) stringCodes (whichever a) → ofString a ≡ No x → NotOwn x
+    go (Meinberg r c) p e = let z : _≡_ {A = ℕ} 0 1 = cc in clash z
+    go (Erlangen r c) p e = let z : _≡_ {A = ℕ} 0 1 = cc in clash z
+    go (StringNo y) p e = not-own stringCodes refl refl x (let same : y ≡ x = cc in rw (sym same) (p .1))
 
 frame-refused : (s : List ℕ) (base : ℕ) (x : Refusal) → ofFrame (readFrame base s) ≡ No x → NotOwn x
 frame-refused s base x e = go (readFrame base s) (frame-owed base s) e
@@ -86,17 +85,12 @@ minute-refused s base x e = go (readDcf77 base s) (minute-owed base s) e
 
 pub refused-by-reader : (base kind : ℕ) (s : List ℕ) (x : Refusal) → readBody base kind s ≡ No x → NotOwn x
 unfolding readBody
-refused-by-reader base kind s x e = go (eqb kind 1) (eqb kind 2) (eqb kind 3) e
+refused-by-reader base kind s x e = go (eqb kind 1 || eqb kind 2) (eqb kind 3) e
   where
-    go : (a b c : Bool)
-        → cond a (ofString (readMeinberg base s))
-        (cond b (ofString (readErlangen base s)) (cond c (ofFrame (readFrame base s)) (ofMinute (readDcf77 base s))))
-        ≡ No x
-        → NotOwn x
-    go true b c e = string-refused _ meinbergCodes refl refl (readMeinberg base s) (meinberg-owed base s) x e
-    go false true c e = string-refused _ erlangenCodes refl refl (readErlangen base s) (erlangen-owed base s) x e
-    go false false true e = frame-refused s base x e
-    go false false false e = minute-refused s base x e
+    go : (a b : Bool) → cond a (ofString (readString base s)) (cond b (ofFrame (readFrame base s)) (ofMinute (readDcf77 base s))) ≡ No x → NotOwn x
+    go true b e = string-refused s base x e
+    go false true e = frame-refused s base x e
+    go false false e = minute-refused s base x e
 
 pub refused-whole : (base : ℕ) (b : List ℕ) (at k : ℕ) (x : Refusal) → Whole b at → recordAt base b at ≡ Refused k x → NotOwn x
 refused-whole base b at k x w e = go (readBody base kind (bodyAt b at)) refl

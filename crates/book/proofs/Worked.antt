@@ -24,6 +24,7 @@ use Rattle.meinberg.specs.Meaning.{qualityOf, coastingIn, meaning, faultIn as m
 use Rattle.erlangen.specs.Layout.{layout as erlangenLayout}
 use Rattle.erlangen.specs.Offset.{wholeUnits, unitsOf, tooFar, offsetBad as erlangenOffsetBad, signed, offsetOf as erlangenOffset}
 use Rattle.erlangen.specs.Meaning.{shows, weekdaySaid, coastingSaid, offsetWrong, markWrong, readingOf as erlangenReading, faultIn as erlangenFault, readErlangen}
+use Rattle.clock_string.specs.Reader.{readString}
 use Rattle.pulses.specs.Row.{groupOf, weightOf, pulseAllowed, goodPulses, shareOf, sumOf, sumsOf, upTo, onesFrom, liesWithin, onesOf}
 use Rattle.irig_table.specs.Table.{framePulses}
 use Rattle.irig.specs.Meaning.{secondIn, minuteIn, hourIn, dayIn, digitsIn, halvesIn, addedIn, yearIn, monthDayIn, readingOf as frameReading, dayBad as frameDayBad, secondOfDayWrong, offsetBad as frameOffsetBad}
@@ -175,7 +176,7 @@ unfolding recordsFrom recordAt nextAt bodyLength readBody number
     leapYear daysIn daysBefore yearLength daysBeforeYear dayOfYear dayNumber weekdayOf isMonth lastDay isDay dayBefore dayAfter yearAfter monthUpTo inYear monthDay
     digit pair packed exactly from either oneOf within beside allowed goodPlaces dayBad monthBad weekdayBad weekdayWrong faultOf
     meinbergLayout zoneOffset summerOf qualityOf coastingIn meaning meinbergFault readMeinberg
-    erlangenLayout wholeUnits unitsOf tooFar erlangenOffsetBad signed erlangenOffset shows weekdaySaid coastingSaid offsetWrong markWrong erlangenReading erlangenFault readErlangen
+    erlangenLayout wholeUnits unitsOf tooFar erlangenOffsetBad signed erlangenOffset shows weekdaySaid coastingSaid offsetWrong markWrong erlangenReading erlangenFault readErlangen readString
     groupOf weightOf pulseAllowed goodPulses shareOf sumOf sumsOf upTo onesFrom liesWithin onesOf
     framePulses secondIn minuteIn hourIn dayIn digitsIn halvesIn addedIn yearIn monthDayIn frameReading frameDayBad secondOfDayWrong frameOffsetBad isOdd fieldsFault valuesFault frameFault readFrame
     sharedMarks lastMarks minuteMarks offsetIn zoneOf zoneBad lastOf dueLong isLong tableFor says minuteReading lengthBad digitFault odd parityFault fieldFault ruleFault saidFault readFault readDcf77

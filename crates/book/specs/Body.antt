@@ -1,18 +1,17 @@
 -- The body of a record: how long its kind makes it, what its reader says of it, and the record that this gives.
-use mathlib.Core.Bool.{cond}
+use mathlib.Core.Bool.{cond, _||_}
 use mathlib.Core.List.{List}
 use Prim.Native.Nat.{ℕ}
 use lib.Dec.{eqb}
-use Rattle.strings.specs.declared.Answer.{Answer as StringAnswer}
-use Rattle.strings.specs.declared.Answer.the-variants.{Time as StringTime, No as StringNo}
+use Rattle.clock_string.specs.declared.Answer.{Answer as StringAnswer}
+use Rattle.clock_string.specs.declared.Answer.the-variants.{Meinberg, Erlangen, No as StringNo}
 use Rattle.irig.specs.declared.Answer.{Answer as FrameAnswer}
 use Rattle.irig.specs.declared.Answer.the-variants.{Time as FrameTime, No as FrameNo}
 use Rattle.dcf77.specs.declared.Answer.{Answer as MinuteAnswer}
 use Rattle.dcf77.specs.declared.Answer.the-variants.{Time as MinuteTime, No as MinuteNo}
 use Rattle.meinberg.specs.Layout.{textLength}
-use Rattle.meinberg.specs.Meaning.{readMeinberg}
 use Rattle.erlangen.specs.Layout.{size}
-use Rattle.erlangen.specs.Meaning.{readErlangen}
+use Rattle.clock_string.specs.Reader.{readString}
 use Rattle.irig.specs.Faults.{frameLength, readFrame}
 use Rattle.dcf77.specs.Forms.{shortLength, longLength}
 use Rattle.dcf77.specs.Reader.{readDcf77}
@@ -27,9 +26,10 @@ bodyLength kind =
     cond (eqb kind 1) textLength
     (cond (eqb kind 2) size (cond (eqb kind 3) frameLength (cond (eqb kind 4) shortLength (cond (eqb kind 5) longLength 0))))
 
--- the time without the coasting mark that stands beside it
+-- the time without the coasting mark that stands beside it; which string it is, the kind says
 abbrev pub ofString : StringAnswer → Said
-ofString (StringTime r coasting) = Time r
+ofString (Meinberg r coasting) = Time r
+ofString (Erlangen r coasting) = Time r
 ofString (StringNo x) = No x
 
 -- the time of a frame
@@ -42,12 +42,11 @@ abbrev pub ofMinute : MinuteAnswer → Said
 ofMinute (MinuteTime r head) = Time r
 ofMinute (MinuteNo x) = No x
 
--- what the reader of the kind says of a body; both lengths of DCF77 have one reader
+-- what the reader of the kind says of a body; both clock strings have one reader, and so have both lengths of DCF77
 unfoldable pub readBody : ℕ → ℕ → List ℕ → Said
 readBody base kind s =
-    cond (eqb kind 1) (ofString (readMeinberg base s))
-    (cond (eqb kind 2) (ofString (readErlangen base s))
-    (cond (eqb kind 3) (ofFrame (readFrame base s)) (ofMinute (readDcf77 base s))))
+    cond (eqb kind 1 || eqb kind 2) (ofString (readString base s))
+    (cond (eqb kind 3) (ofFrame (readFrame base s)) (ofMinute (readDcf77 base s)))
 
 -- what its reader says of a body, with the kind. `Accepted`: the reader takes the body, and this is its reading; a stamp it need
 -- not have (case 9: "accepted, its stamp is code 12"). `Refused`: the reader's own code and place

@@ -1,6 +1,7 @@
 // The body of a record: how long the kind makes it, and what its reader says of it.
 use super::Record;
 use super::Said;
+use clock_string::read;
 use dcf77::Dcf77;
 use erlangen::Erlangen;
 use irig::Ieee1344;
@@ -23,12 +24,13 @@ pub(crate) fn body_length(kind: u8) -> usize
     }
 }
 
-fn of_string(answer: strings::Answer) -> Said
+fn of_string(answer: clock_string::Answer) -> Said
     ensures { λ r. ⌜ r ≡ ofString answer ⌝ }
 {
     match answer {
-        strings::Answer::Time(reading, _) => Said::Time(reading),
-        strings::Answer::No(refusal) => Said::No(refusal),
+        clock_string::Answer::Meinberg(reading, _) => Said::Time(reading),
+        clock_string::Answer::Erlangen(reading, _) => Said::Time(reading),
+        clock_string::Answer::No(refusal) => Said::No(refusal),
     }
 }
 
@@ -55,8 +57,8 @@ pub(crate) fn read_body(kind: u8, body: &[u8]) -> Said
     ensures { λ r. ⌜ r ≡ readBody base kind (now (body .entry)) ⌝ }
 {
     match kind {
-        1 => of_string(Meinberg::read(body)),
-        2 => of_string(Erlangen::read(body)),
+        1 => of_string(read(body)),
+        2 => of_string(read(body)),
         3 => of_frame(Ieee1344::read(body)),
         _ => of_minute(Dcf77::read(body)),
     }

@@ -17,59 +17,50 @@ use Rattle.reading.specs.declared.Written.the-variants.{Length as Wrote, No as 
 use Rattle.reading.specs.Faults.{number}
 use Rattle.reading.specs.Checks.{checkedOf}
 use Rattle.reading.proofs.CheckLaws.{clash, checked-is}
-use Rattle.strings.specs.declared.Answer.{Answer}
-use Rattle.strings.specs.declared.Answer.the-variants.{Time, No}
-use Rattle.meinberg.proofs.RoundTrip.{accepted-checked as meinberg-checked}
-use Rattle.erlangen.proofs.Promises.{accepted-checked as erlangen-checked}
+use Rattle.clock_string.specs.declared.Answer.{Answer}
+use Rattle.clock_string.specs.declared.Answer.the-variants.{Meinberg, Erlangen, No}
+use Rattle.clock_string.specs.Reader.{readString, whichever}
+use Rattle.clock_string.proofs.ReadLaws.{Tells, accepted-checked}
 use Rattle.irig.specs.declared.Answer.the-variants.{Time as Told}
 use Rattle.irig.specs.Faults.{frameLength, readFrame}
 use Rattle.irig.specs.Writing.{frameOf}
 use Rattle.irig.proofs.WriteLaws.{length-frame}
 use Rattle.irig.proofs.FrameLaws.{frame-read}
-use Rattle.bridge.specs.declared.Kind.{Kind}
-use Rattle.bridge.specs.declared.Kind.the-variants.{Meinberg, Erlangen}
-use Rattle.bridge.specs.Bridge.{pendingOf, readString, answerFor, bridgeAnswer, bridgeFilled}
+use Rattle.bridge.specs.Bridge.{pendingOf, answerFor, bridgeAnswer, bridgeFilled}
 use Rattle.bridge.proofs.PendingLaws.{pending-checked}
 
--- the reading of an accepted string passes the checks that every writer shares
-pub accepted-checked : (base : ℕ) (kind : Kind) (s : List ℕ) (r : Reading) (coasting : Bool) → readString base kind s ≡ Time r coasting
-    → checkedOf base r ≡ Good
-unfolding readString
-accepted-checked base Meinberg s r coasting e = meinberg-checked base s r coasting e
-accepted-checked base Erlangen s r coasting e = erlangen-checked base s r coasting e
-
-module _ (base : ℕ) (kind : Kind) (s : List ℕ) where
-  -- and so does what goes over, so that no frame is refused
-  pub carried-checked : (r : Reading) (coasting : Bool) → readString base kind s ≡ Time r coasting → checkedOf base (pendingOf r) ≡ Good
-  carried-checked r coasting e = pending-checked base r ∙ accepted-checked base kind s r coasting e
+module _ (base : ℕ) (s : List ℕ) where
+  -- the reading of an accepted string passes the checks that every writer shares, and so does what goes over, so that no frame is refused
+  pub carried-checked : (r : Reading) (coasting : Bool) → Tells base s r coasting → checkedOf base (pendingOf r) ≡ Good
+  carried-checked r coasting e = pending-checked base r ∙ accepted-checked base s r coasting e
 
   module _ (buffer : List ℕ) where
     -- "The bridge checks output length first", whatever the string is
     pub too-short-first : length buffer < frameLength
-        → (bridgeAnswer base kind s (length buffer) ≡ Refused (number Length)) × (bridgeFilled base kind s buffer ≡ buffer)
+        → (bridgeAnswer base s (length buffer) ≡ Refused (number Length)) × (bridgeFilled base s buffer ≡ buffer)
     unfolding bridgeAnswer bridgeFilled
     too-short-first h = rw (lt-ltb (length buffer) frameLength h) (refl, refl)
 
     module _ (enough : frameLength ≤ length buffer) where
       -- then the string's refusal, code and place
-      pub string-refusal-unchanged : (x : Refusal) → readString base kind s ≡ No x
-          → (bridgeAnswer base kind s (length buffer) ≡ Refused x) × (bridgeFilled base kind s buffer ≡ buffer)
+      pub string-refusal-unchanged : (x : Refusal) → readString base s ≡ No x
+          → (bridgeAnswer base s (length buffer) ≡ Refused x) × (bridgeFilled base s buffer ≡ buffer)
       unfolding bridgeAnswer bridgeFilled
       string-refusal-unchanged x e = rw (le-ltb (length buffer) frameLength enough, e) (refl, refl)
 
-      module _ (r : Reading) (coasting : Bool) (accepted : readString base kind s ≡ Time r coasting) where
+      module _ (r : Reading) (coasting : Bool) (accepted : Tells base s r coasting) where
         -- then success, "from the start of the buffer and no others"
-        pub accepted-written : (bridgeAnswer base kind s (length buffer) ≡ Wrote frameLength)
-            × (bridgeFilled base kind s buffer ≡ frameOf (pendingOf r) ++ drop frameLength buffer)
+        pub accepted-written : (bridgeAnswer base s (length buffer) ≡ Wrote frameLength)
+            × (bridgeFilled base s buffer ≡ frameOf (pendingOf r) ++ drop frameLength buffer)
         unfolding bridgeAnswer bridgeFilled
         accepted-written = rw (le-ltb (length buffer) frameLength enough, accepted) (refl, refl)
 
-        pub rest-untouched : drop frameLength (bridgeFilled base kind s buffer) ≡ drop frameLength buffer
+        pub rest-untouched : drop frameLength (bridgeFilled base s buffer) ≡ drop frameLength buffer
         rest-untouched =
             rw (accepted-written .1) (drop-at (frameOf (pendingOf r)) (drop frameLength buffer) frameLength (length-frame (pendingOf r)))
 
         -- the frame says the string's reading, with what is pending
-        pub frame-reads-back : readFrame base (take frameLength (bridgeFilled base kind s buffer)) ≡ Told (pendingOf r)
+        pub frame-reads-back : readFrame base (take frameLength (bridgeFilled base s buffer)) ≡ Told (pendingOf r)
         frame-reads-back =
             let p = pendingOf r in
             rw (accepted-written .1, take-at (frameOf p) (drop frameLength buffer) frameLength (length-frame p))
@@ -77,48 +68,50 @@ module _ (base : ℕ) (kind : Kind) (s : List ℕ) where
 
 -- ---- what an answer tells
 
-module _ (base : ℕ) (kind : Kind) (s : List ℕ) where
+module _ (base : ℕ) (s : List ℕ) where
   -- nothing else refuses: a refusal is that of the room, or the string's own
-  pub refused-by : (room : ℕ) (x : Refusal) → bridgeAnswer base kind s room ≡ Refused x
-      → ((room < frameLength) × (x ≡ number Length)) ⊎ ((frameLength ≤ room) × (readString base kind s ≡ No x))
+  pub refused-by : (room : ℕ) (x : Refusal) → bridgeAnswer base s room ≡ Refused x
+      → ((room < frameLength) × (x ≡ number Length)) ⊎ ((frameLength ≤ room) × (readString base s ≡ No x))
   unfolding bridgeAnswer
-  refused-by room x e = go (ltb room frameLength) refl (readString base kind s) refl e
+  refused-by room x e = go (ltb room frameLength) refl (readString base s) refl e
     where
-      go : (b : Bool) → ltb room frameLength ≡ b → (a : Answer) → readString base kind s ≡ a
-          → cond b (Refused (number Length)) (answerFor a) ≡ Refused x
-          → ((room < frameLength) × (x ≡ number Length)) ⊎ ((frameLength ≤ room) × (readString base kind s ≡ No x))
+      go : (b : Bool) → ltb room frameLength ≡ b → (a : Answer) → readString base s ≡ a
+          → cond b (Refused (number Length)) (answerFor (whichever a)) ≡ Refused x
+          → ((room < frameLength) × (x ≡ number Length)) ⊎ ((frameLength ≤ room) × (readString base s ≡ No x))
       go true short a q e = inl (ltb-true room frameLength short, cc)
       go false wide (No y) q e = inr (ltb-false room frameLength wide, cc)
-      go false wide (Time r coasting) q e = let z : _≡_ {A = ℕ} 0 1 = cc in clash z
+      go false wide (Meinberg r coasting) q e = let z : _≡_ {A = ℕ} 0 1 = cc in clash z
+      go false wide (Erlangen r coasting) q e = let z : _≡_ {A = ℕ} 0 1 = cc in clash z
 
   -- a string that says a time
   abbrev pub Accepted : Type 0
-  Accepted = (r : Reading) × (coasting : Bool) × (readString base kind s ≡ Time r coasting)
+  Accepted = (r : Reading) × (coasting : Bool) × (Tells base s r coasting)
 
   -- a length is that of a frame, for an accepted string that has room
-  pub wrote-by : (room n : ℕ) → bridgeAnswer base kind s room ≡ Wrote n → (n ≡ frameLength) × (frameLength ≤ room) × Accepted
+  pub wrote-by : (room n : ℕ) → bridgeAnswer base s room ≡ Wrote n → (n ≡ frameLength) × (frameLength ≤ room) × Accepted
   unfolding bridgeAnswer
-  wrote-by room n e = go (ltb room frameLength) refl (readString base kind s) refl e
+  wrote-by room n e = go (ltb room frameLength) refl (readString base s) refl e
     where
-      go : (b : Bool) → ltb room frameLength ≡ b → (a : Answer) → readString base kind s ≡ a
-          → cond b (Refused (number Length)) (answerFor a) ≡ Wrote n → (n ≡ frameLength) × (frameLength ≤ room) × Accepted
+      go : (b : Bool) → ltb room frameLength ≡ b → (a : Answer) → readString base s ≡ a
+          → cond b (Refused (number Length)) (answerFor (whichever a)) ≡ Wrote n → (n ≡ frameLength) × (frameLength ≤ room) × Accepted
       go true short a q e = let z : _≡_ {A = ℕ} 0 1 = cc in clash z
       go false wide (No y) q e = let z : _≡_ {A = ℕ} 0 1 = cc in clash z
-      go false wide (Time r coasting) q e = (cc, ltb-false room frameLength wide, (r, coasting, q))
+      go false wide (Meinberg r coasting) q e = (cc, ltb-false room frameLength wide, (r, coasting, rw q))
+      go false wide (Erlangen r coasting) q e = (cc, ltb-false room frameLength wide, (r, coasting, rw q))
 
   module _ (buffer : List ℕ) where
     -- success exactly where there is room and the string is accepted
-    pub exactly : (bridgeAnswer base kind s (length buffer) ≡ Wrote frameLength) ↔ ((frameLength ≤ length buffer) × Accepted)
+    pub exactly : (bridgeAnswer base s (length buffer) ≡ Wrote frameLength) ↔ ((frameLength ≤ length buffer) × Accepted)
     exactly = (
       λ e. (let w = wrote-by (length buffer) frameLength e in (w .1, w .2)),
-      λ a. accepted-written base kind s buffer (a .0) (a .1 .0) (a .1 .1) (a .1 .2) .0,
+      λ a. accepted-written base s buffer (a .0) (a .1 .0) (a .1 .1) (a .1 .2) .0,
     )
 
     -- "A refusal leaves all lent memory untouched"
-    pub refused-untouched : (x : Refusal) → bridgeAnswer base kind s (length buffer) ≡ Refused x → bridgeFilled base kind s buffer ≡ buffer
+    pub refused-untouched : (x : Refusal) → bridgeAnswer base s (length buffer) ≡ Refused x → bridgeFilled base s buffer ≡ buffer
     refused-untouched x e = go (refused-by (length buffer) x e)
       where
-        go : ((length buffer < frameLength) × (x ≡ number Length)) ⊎ ((frameLength ≤ length buffer) × (readString base kind s ≡ No x))
-            → bridgeFilled base kind s buffer ≡ buffer
-        go (inl a) = too-short-first base kind s buffer (a .0) .1
-        go (inr a) = string-refusal-unchanged base kind s buffer (a .0) x (a .1) .1
+        go : ((length buffer < frameLength) × (x ≡ number Length)) ⊎ ((frameLength ≤ length buffer) × (readString base s ≡ No x))
+            → bridgeFilled base s buffer ≡ buffer
+        go (inl a) = too-short-first base s buffer (a .0) .1
+        go (inr a) = string-refusal-unchanged base s buffer (a .0) x (a .1) .1

@@ -10,5 +10,5 @@ use Rattle.bridge.proofs.bridge.Kinds as bridge-kinds
 
 pub bridge-one : (κs : Lfts 2) (a : Dens κs bridge-kinds.ps) (x y : resT bridge-kinds.r κs .Denot)
     (e f : AtExit (endedOf 2 bridge-kinds.ps bridge-kinds.r) κs)
-    → bridge-reads.Post κs a x e → bridge-reads.Post κs a y f → (x ≡ y) × (now (e .1 .1 .0) ≡ now (f .1 .1 .0))
+    → bridge-reads.Post κs a x e → bridge-reads.Post κs a y f → (x ≡ y) × (now (e .1 .0) ≡ now (f .1 .0))
 bridge-one κs a x y e f p q = (cc, cc)

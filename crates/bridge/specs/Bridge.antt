@@ -1,4 +1,4 @@
--- What the bridge makes of a string: its answer, and what the lent buffer then holds.
+-- What the bridge makes of a clock string, whichever it is: its answer, and what the lent buffer then holds.
 use mathlib.Core.Bool.{cond, _&&_}
 use mathlib.Core.List.{List, _++_}
 use Prim.Native.Nat.{ℕ}
@@ -13,12 +13,9 @@ use Rattle.reading.specs.Universal.{utcOf}
 use Rattle.reading.specs.Leap.{leapWindow, changeWindow}
 use Rattle.strings.specs.declared.Answer.{Answer}
 use Rattle.strings.specs.declared.Answer.the-variants.{Time, No}
-use Rattle.meinberg.specs.Meaning.{readMeinberg}
-use Rattle.erlangen.specs.Meaning.{readErlangen}
+use Rattle.clock_string.specs.Reader.{readString, whichever}
 use Rattle.irig.specs.Faults.{frameLength}
 use Rattle.irig.specs.Writing.{frameOf}
-use Rattle.bridge.specs.declared.Kind.{Kind}
-use Rattle.bridge.specs.declared.Kind.the-variants.{Meinberg, Erlangen}
 
 -- "Leap pending is set exactly when leap is announced and UTC is 23:59:01..23:59:59 on 30 June or 31 December; change pending
 -- exactly when change is announced and local minute is 59, second 1..59. All else of the reading goes over as it is." By L3 the
@@ -39,11 +36,6 @@ pendingOf r =
       quality = r .quality;
     }
 
--- what the reader of the named kind answers to the string s
-unfoldable pub readString : ℕ → Kind → List ℕ → Answer
-readString base Meinberg s = readMeinberg base s
-readString base Erlangen s = readErlangen base s
-
 -- the answer where there is room: the length of a frame, or the string's own refusal
 abbrev pub answerFor : Answer → Written
 answerFor (Time r coasting) = Wrote frameLength
@@ -55,9 +47,9 @@ bytesFor (Time r coasting) buffer = frameOf (pendingOf r) ++ drop frameLength bu
 bytesFor (No refusal) buffer = buffer
 
 -- "The bridge checks output length first."
-unfoldable pub bridgeAnswer : ℕ → Kind → List ℕ → ℕ → Written
-bridgeAnswer base kind s room = cond (ltb room frameLength) (Refused (number Length)) (answerFor (readString base kind s))
+unfoldable pub bridgeAnswer : ℕ → List ℕ → ℕ → Written
+bridgeAnswer base s room = cond (ltb room frameLength) (Refused (number Length)) (answerFor (whichever (readString base s)))
 
 -- what the buffer holds afterwards
-unfoldable pub bridgeFilled : ℕ → Kind → List ℕ → List ℕ → List ℕ
-bridgeFilled base kind s buffer = cond (ltb (length buffer) frameLength) buffer (bytesFor (readString base kind s) buffer)
+unfoldable pub bridgeFilled : ℕ → List ℕ → List ℕ → List ℕ
+bridgeFilled base s buffer = cond (ltb (length buffer) frameLength) buffer (bytesFor (whichever (readString base s)) buffer)

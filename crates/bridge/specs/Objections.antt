@@ -3,21 +3,13 @@ use mathlib.Core.List.{List, _∷_}
 use Prim.Native.Nat.{ℕ}
 use lib.Dec.{ltb}
 use Rattle.reading.specs.Refusals.{Objection, objection}
-use Rattle.meinberg.specs.Objections.{readObjections as meinbergObjections, readCodes as meinbergCodes}
-use Rattle.erlangen.specs.Objections.{readObjections as erlangenObjections, readCodes as erlangenCodes}
-use Rattle.bridge.specs.declared.Kind.{Kind}
-use Rattle.bridge.specs.declared.Kind.the-variants.{Meinberg, Erlangen}
-
--- the string s, read as the named kind
-unfoldable pub stringObjections : ℕ → Kind → List ℕ → List Objection
-stringObjections base Meinberg s = meinbergObjections base s
-stringObjections base Erlangen s = erlangenObjections base s
+use Rattle.clock_string.specs.Objections.{readObjections}
+pub use Rattle.clock_string.specs.Objections.{readCodes}
 
 -- with room for so many pulses: "The bridge checks output length first."
-unfoldable pub bridgeObjections : ℕ → Kind → List ℕ → ℕ → List Objection
-bridgeObjections base kind s room = objection (ltb room 100) 1 0 ∷ stringObjections base kind s
+unfoldable pub bridgeObjections : ℕ → List ℕ → ℕ → List Objection
+bridgeObjections base s room = objection (ltb room 100) 1 0 ∷ readObjections base s
 
 -- the codes that the bridge can answer with
-abbrev pub bridgeCodes : Kind → List ℕ
-bridgeCodes Meinberg = meinbergCodes
-bridgeCodes Erlangen = erlangenCodes
+abbrev pub bridgeCodes : List ℕ
+bridgeCodes = readCodes

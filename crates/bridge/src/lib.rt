@@ -1,8 +1,7 @@
-// The bridge: reads a string of a named kind and writes the IEEE 1344 frame of its reading. The coasting mark is dropped,
-// and the two announcements go over only in the minute before they come true.
-use erlangen::Erlangen;
+// The bridge: reads a clock string and writes the IEEE 1344 frame of its reading. The coasting mark is dropped, and the two
+// announcements go over only in the minute before they come true.
+use clock_string::read;
 use irig::Ieee1344;
-use meinberg::Meinberg;
 use reading::Fault;
 use reading::Reading;
 use reading::Refusal;
@@ -18,23 +17,18 @@ ghost use lib.ListN.{length};
 ghost use Rattle.reading.specs.Years.{base};
 ghost use Rattle.reading.specs.Universal.{utcOf};
 ghost use Rattle.reading.specs.Leap.{leapWindow};
-ghost use Rattle.bridge.specs.Bridge.{pendingOf, readString, bridgeAnswer, bridgeFilled};
-
-// The strings that can be carried over.
-pub enum Kind {
-    Meinberg,
-    Erlangen,
-}
+ghost use Rattle.clock_string.specs.Reader.{whichever};
+ghost use Rattle.bridge.specs.Bridge.{pendingOf, bridgeAnswer, bridgeFilled};
 
 // The room is looked at before the string.
-pub fn bridge(kind: Kind, s: &[u8], out: &mut [u8]) -> Written
-    ensures { λ w. ⌜ w ≡ bridgeAnswer base kind (now (s .entry)) (length (now (out .entry))) ⌝ }
-    ensures { λ w. ⌜ now (out .exit) ≡ bridgeFilled base kind (now (s .entry)) (now (out .entry)) ⌝ }
+pub fn bridge(s: &[u8], out: &mut [u8]) -> Written
+    ensures { λ w. ⌜ w ≡ bridgeAnswer base (now (s .entry)) (length (now (out .entry))) ⌝ }
+    ensures { λ w. ⌜ now (out .exit) ≡ bridgeFilled base (now (s .entry)) (now (out .entry)) ⌝ }
 {
     if out.len() < Ieee1344::LENGTH {
         return refuse(refusal_of(Fault::Length), out);
     }
-    let answer = read_string(kind, s);
+    let answer = whichever(read(s));
     match answer {
         Answer::Time(r, _) => Ieee1344::write(pending_of(r), out),
         Answer::No(refusal) => refuse(refusal, out),
@@ -49,12 +43,14 @@ fn refuse(refusal: Refusal, out: &mut [u8]) -> Written
     Written::No(refusal)
 }
 
-fn read_string(kind: Kind, s: &[u8]) -> Answer
-    ensures { λ a. ⌜ a ≡ readString base kind (now (s .entry)) ⌝ }
+// Either string goes over alike.
+fn whichever(answer: clock_string::Answer) -> Answer
+    ensures { λ a. ⌜ a ≡ whichever answer ⌝ }
 {
-    match kind {
-        Kind::Meinberg => Meinberg::read(s),
-        Kind::Erlangen => Erlangen::read(s),
+    match answer {
+        clock_string::Answer::Meinberg(r, coasting) => Answer::Time(r, coasting),
+        clock_string::Answer::Erlangen(r, coasting) => Answer::Time(r, coasting),
+        clock_string::Answer::No(refusal) => Answer::No(refusal),
     }
 }
 

@@ -1,5 +1,5 @@
 -- What the verdict on a string, or on what a writer is given, tells: its length, its bytes, and the reading.
-use mathlib.Core.Bool.{Bool, false, not}
+use mathlib.Core.Bool.{false, not}
 use mathlib.Core.List.{List}
 use mathlib.Core.Path.{_≡_, refl, _∙_}
 use Prim.Native.Nat.{ℕ, _≤_, _<_}
@@ -11,7 +11,6 @@ use Rattle.laws.proofs.Bools.{neither}
 use Rattle.wire.specs.Layout.{goodPlaces, printables}
 use Rattle.wire.proofs.LayoutLaws.{good-within, printables-within}
 use Rattle.reading.specs.declared.Reading.{Reading}
-use Rattle.reading.specs.declared.Refusal.{Refusal}
 use Rattle.reading.specs.declared.Fault.{Fault}
 use Rattle.reading.specs.declared.Fault.the-variants.{Length, Byte}
 use Rattle.reading.specs.declared.Verdict.{Verdict}
@@ -20,7 +19,7 @@ use Rattle.reading.specs.Faults.{number}
 use Rattle.reading.specs.Writing.{andThen}
 use Rattle.reading.specs.Checks.{checkedOf}
 use Rattle.reading.proofs.CheckLaws.{clash, first-good}
-use Rattle.strings.specs.declared.Answer.the-variants.{Time, No}
+use Rattle.strings.specs.declared.Answer.the-variants.{No}
 use Rattle.strings.specs.Checks.{faultOf, answerOf}
 use Rattle.strings.proofs.CheckLaws.{Sound, sound, faultless}
 use Rattle.erlangen.specs.Layout.{size, positionSize, layout}
@@ -51,23 +50,6 @@ module _ (base : ℕ) (s : List ℕ) where
   unfolding readErlangen
   answered v e = rw e
 
-  -- and back: what the answer tells of the fault
-  pub time-faultless : (r : Reading) (coasting : Bool) → readErlangen base s ≡ Time r coasting → faultIn base s ≡ Good
-  unfolding readErlangen
-  time-faultless r coasting e = go (faultIn base s) e
-    where
-      go : (v : Verdict) → answerOf v (readingOf base s) (coastingSaid s) ≡ Time r coasting → v ≡ Good
-      go Good e = refl
-      go (Bad x) e = let z : _≡_ {A = ℕ} 0 1 = cc in clash z
-
-  pub no-faulty : (n : Refusal) → readErlangen base s ≡ No n → (x : Fault) × (faultIn base s ≡ Bad x)
-  unfolding readErlangen
-  no-faulty n e = go (faultIn base s) e
-    where
-      go : (v : Verdict) → answerOf v (readingOf base s) (coastingSaid s) ≡ No n → (x : Fault) × (v ≡ Bad x)
-      go Good e = let z : _≡_ {A = ℕ} 0 1 = cc in clash z
-      go (Bad x) e = (x, refl)
-
 -- ---- a string
 
 pub record Accepted (base : ℕ) (s : List ℕ) : Type 0 where
@@ -90,9 +72,6 @@ module _ (base : ℕ) (s : List ℕ) where
   is-accepted p =
       let g : size ≤ goodPlaces layout s = omega (arith, p .bytes, p .size-is) in
       rw (eq-eqb (length s) size (p .size-is), le-ltb (goodPlaces layout s) size g) (faultless _ _ _ _ places (p .sounds))
-
-  pub accepted-length : faultIn base s ≡ Good → length s ≡ size
-  accepted-length e = accepted-is e .size-is
 
 -- ---- what a writer is given
 

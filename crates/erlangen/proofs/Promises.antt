@@ -1,6 +1,6 @@
 -- What reader and writer of Uni Erlangen strings promise of each other, for any base year.
 use mathlib.Core.Bool.{Bool, true, false}
-use mathlib.Core.List.{List, [], _++_}
+use mathlib.Core.List.{List, _++_}
 use mathlib.Core.Logic.{_↔_}
 use mathlib.Core.Path.{_≡_, refl, sym, _∙_}
 use Prim.Native.Nat.{ℕ, _≤_, _<_}
@@ -12,7 +12,6 @@ use Rattle.wire.specs.Layout.{goodPlaces, printables}
 use Rattle.wire.proofs.LayoutLaws.{allowedAt, first-bad, printableAt, first-unprintable-is}
 use Rattle.reading.specs.declared.Reading.{Reading}
 use Rattle.reading.specs.declared.Refusal.{Refusal}
-use Rattle.reading.specs.declared.Fault.{Fault}
 use Rattle.reading.specs.declared.Fault.the-variants.{Byte, OutsideYears}
 use Rattle.reading.specs.declared.Verdict.{Verdict}
 use Rattle.reading.specs.declared.Verdict.the-variants.{Good, Bad}
@@ -27,15 +26,15 @@ use Rattle.reading.proofs.CheckLaws.{clash}
 use Rattle.reading.proofs.StampLaws.{is-stamp, refused-by-12}
 use Rattle.strings.specs.declared.Answer.the-variants.{Time}
 use Rattle.strings.specs.Checks.{answerOf}
-use Rattle.erlangen.specs.Layout.{size, positionAt, positionSize, layout}
-use Rattle.erlangen.specs.Meaning.{readingOf, coastingSaid, faultIn, readErlangen, positionOf}
+use Rattle.erlangen.specs.Layout.{size, positionSize, layout}
+use Rattle.erlangen.specs.Meaning.{readingOf, coastingSaid, faultIn, readErlangen, positionBytes}
 use Rattle.erlangen.specs.Writing.{bytesOf, lengthBad, writeFault}
 use Rattle.erlangen.proofs.FaultLaws.{Accepted, accepted-is, is-accepted, carried-is, is-carried}
 use Rattle.erlangen.proofs.BytesLaws.{bytes-length}
 use Rattle.erlangen.proofs.ReadLaws.{bytes-back, position-length, position-printable, reading-checked, reading-carried}
 use Rattle.erlangen.proofs.WriteLaws.{bytes-accepted, says-back}
 
-layout-length : length layout ≡ size
+pub layout-length : length layout ≡ size
 unfolding layout
 layout-length = refl
 
@@ -45,21 +44,11 @@ told-is : (v : Verdict) (a r : Reading) (b c : Bool) → answerOf v a b ≡ Time
 told-is Good a r b c e = (refl, cc, cc)
 told-is (Bad x) a r b c e = let z : _≡_ {A = ℕ} 0 1 = cc in clash z
 
-length-is : (v : Verdict) (m n : ℕ) → writtenOf v m ≡ Length n → (v ≡ Good) × (n ≡ m)
+pub length-is : (v : Verdict) (m n : ℕ) → writtenOf v m ≡ Length n → (v ≡ Good) × (n ≡ m)
 length-is Good m n e = (refl, cc)
 length-is (Bad x) m n e = let z : _≡_ {A = ℕ} 0 1 = cc in clash z
 
--- ---- the position part: "which gives an empty part for a refused string"
-
 module _ (base : ℕ) (s : List ℕ) where
-  pub position-of-accepted : faultIn base s ≡ Good → positionOf base s ≡ take positionSize (drop positionAt s)
-  unfolding positionOf
-  position-of-accepted e = rw e
-
-  pub position-of-refused : (x : Fault) → faultIn base s ≡ Bad x → positionOf base s ≡ []
-  unfolding positionOf
-  position-of-refused x e = rw e
-
   pub accepted-by : (r : Reading) (coasting : Bool) → readErlangen base s ≡ Time r coasting → (faultIn base s ≡ Good) × (readingOf base s ≡ r) × (coastingSaid s ≡ coasting)
   unfolding readErlangen
   accepted-by r coasting e = told-is (faultIn base s) (readingOf base s) r (coastingSaid s) coasting e
@@ -72,13 +61,13 @@ module _ (base : ℕ) (s : List ℕ) where
 
 module _ (base : ℕ) (r : Reading) (coasting : Bool) (position : List ℕ) where
   pub bytes-read : (room : ℕ) → writeFault base r position room ≡ Good
-      → (readErlangen base (bytesOf r coasting position) ≡ Time r coasting) × (positionOf base (bytesOf r coasting position) ≡ position)
+      → (readErlangen base (bytesOf r coasting position) ≡ Time r coasting) × (positionBytes (bytesOf r coasting position) ≡ position)
   bytes-read room e =
       let p = carried-is base r position room e in
       let s = bytesOf r coasting position in
       let b = says-back base r coasting position room p in
       let good = is-accepted base s (bytes-accepted base r coasting position room p) in
-      (told-as base s good ∙ rw (b .0, b .1), position-of-accepted base s good ∙ b .2)
+      (told-as base s good ∙ rw (b .0, b .1), b .2)
 
   module _ (buffer : List ℕ) where
     -- what the writer answers, and what the buffer holds then
@@ -93,7 +82,7 @@ module _ (base : ℕ) (r : Reading) (coasting : Bool) (position : List ℕ) wher
 
     -- "demand 2's reading back, from any start": what was written reads as what was given
     pub written-reads : (n : ℕ) → writtenOf verdict size ≡ Length n
-        → (n ≡ size) × (readErlangen base (take n after) ≡ Time r coasting) × (positionOf base (take n after) ≡ position)
+        → (n ≡ size) × (readErlangen base (take n after) ≡ Time r coasting) × (positionBytes (take n after) ≡ position)
     written-reads n e =
         let a = length-is verdict size n e in
         let l = bytes-length r coasting position (carried-is base r position (length buffer) (a .0) .size-is) in
@@ -123,19 +112,20 @@ module _ (base : ℕ) (s : List ℕ) (r : Reading) (coasting : Bool) (told : rea
   facts : Accepted base s
   facts = accepted-is base s (accepted-by base s r coasting told .0)
 
-  position-is : positionOf base s ≡ take positionSize (drop positionAt s)
-  position-is = position-of-accepted base s (accepted-by base s r coasting told .0)
+  -- "Uni Erlangen, 68 bytes"
+  pub accepted-length : length s ≡ size
+  accepted-length = facts .size-is
 
   -- "what you read writes back to the same bytes", from a buffer with room
-  pub read-writes : (room : ℕ) → size ≤ room → (writeFault base r (positionOf base s) room ≡ Good) × (bytesOf r coasting (positionOf base s) ≡ s)
+  pub read-writes : (room : ℕ) → size ≤ room → (writeFault base r (positionBytes s) room ≡ Good) × (bytesOf r coasting (positionBytes s) ≡ s)
   read-writes room h =
       let a = accepted-by base s r coasting told in
-      let c = is-carried base (readingOf base s) (take positionSize (drop positionAt s)) room (reading-carried base s facts room h) in
-      (rw (position-is, ← a .1) c, rw (position-is, ← a .1, ← a .2) (bytes-back base s facts))
+      let c = is-carried base (readingOf base s) (positionBytes s) room (reading-carried base s facts room h) in
+      (rw (← a .1) c, rw (← a .1, ← a .2) (bytes-back base s facts))
 
   pub read-rewrites : (buffer : List ℕ) → size ≤ length buffer
-      → (writtenOf (writeFault base r (positionOf base s) (length buffer)) size ≡ Length size)
-      × (filled (writeFault base r (positionOf base s) (length buffer)) (bytesOf r coasting (positionOf base s)) buffer ≡ s ++ drop size buffer)
+      → (writtenOf (writeFault base r (positionBytes s) (length buffer)) size ≡ Length size)
+      × (filled (writeFault base r (positionBytes s) (length buffer)) (bytesOf r coasting (positionBytes s)) buffer ≡ s ++ drop size buffer)
   read-rewrites buffer h =
       let w = read-writes (length buffer) h in
       rw (w .0, w .1, facts .size-is) (refl, refl)
@@ -156,14 +146,14 @@ module _ (base : ℕ) (s : List ℕ) (r : Reading) (coasting : Bool) (told : rea
       go false h = let a = refused-by-12 base r accepted-checked h in cc
 
   -- "The position bytes are printable", and there are 26
-  pub position-good : (length (positionOf base s) ≡ positionSize) × (printables (positionOf base s) ≡ positionSize)
+  pub position-good : (length (positionBytes s) ≡ positionSize) × (printables (positionBytes s) ≡ positionSize)
   position-good =
       let l = position-length base s facts in
-      rw position-is (l, position-printable base s facts ∙ l)
+      (l, position-printable base s facts ∙ l)
 
 -- no two strings with one position part say the same time
 pub one-string : (base : ℕ) (s t : List ℕ) (r : Reading) (coasting : Bool) → readErlangen base s ≡ Time r coasting → readErlangen base t ≡ Time r coasting
-    → positionOf base s ≡ positionOf base t → s ≡ t
+    → positionBytes s ≡ positionBytes t → s ≡ t
 one-string base s t r coasting a b e =
     let v = read-writes base s r coasting a size (omega arith) in
     let w = read-writes base t r coasting b size (omega arith) in
@@ -179,7 +169,7 @@ exactly base s = (there, back)
   where
     there : (r : Reading) × (coasting : Bool) × (readErlangen base s ≡ Time r coasting)
         → (r : Reading) × (coasting : Bool) × (position : List ℕ) × (writeFault base r position size ≡ Good) × (bytesOf r coasting position ≡ s)
-    there a = let w = read-writes base s (a .0) (a .1) (a .2) size (omega arith) in (a .0, a .1, positionOf base s, w .0, w .1)
+    there a = let w = read-writes base s (a .0) (a .1) (a .2) size (omega arith) in (a .0, a .1, positionBytes s, w .0, w .1)
 
     back : (r : Reading) × (coasting : Bool) × (position : List ℕ) × (writeFault base r position size ≡ Good) × (bytesOf r coasting position ≡ s)
         → (r : Reading) × (coasting : Bool) × (readErlangen base s ≡ Time r coasting)

@@ -5,12 +5,10 @@ use contract.Lifetimes.{Lfts}
 use denote.Triple.Clauses.{AtExit}
 use denote.Ref.{now}
 use Rattle.laws.proofs.Coincide.{Coincide}
-use Rattle.erlangen.proofs.Erlangen.read.Kinds as read-kinds
-use Rattle.erlangen.proofs.Erlangen.read.Reads as read-reads
+use Rattle.erlangen.proofs.read.for_clock_string.Kinds as for-clock-string-kinds
+use Rattle.erlangen.proofs.read.for_clock_string.Reads as for-clock-string-reads
 use Rattle.erlangen.proofs.Erlangen.write.Kinds as write-kinds
 use Rattle.erlangen.proofs.Erlangen.write.Reads as write-reads
-use Rattle.erlangen.proofs.Erlangen.position_part.Kinds as position-part-kinds
-use Rattle.erlangen.proofs.Erlangen.position_part.Reads as position-part-reads
 use Rattle.erlangen.proofs.layout.good_places.Kinds as good-places-kinds
 use Rattle.erlangen.proofs.layout.good_places.Reads as good-places-reads
 use Rattle.erlangen.proofs.offset.offset_bad.Kinds as offset-bad-kinds
@@ -22,18 +20,12 @@ use Rattle.erlangen.proofs.offset.is_behind.Reads as is-behind-reads
 use Rattle.erlangen.proofs.offset.minutes_of.Kinds as minutes-of-kinds
 use Rattle.erlangen.proofs.offset.minutes_of.Reads as minutes-of-reads
 
-pub read-one : Coincide 1 read-kinds.ps read-kinds.r read-reads.Post
-read-one κs a x y e f p q = cc
+pub for-clock-string-one : Coincide 1 for-clock-string-kinds.ps for-clock-string-kinds.r for-clock-string-reads.Post
+for-clock-string-one κs a x y e f p q = cc
 
 pub write-one : (κs : Lfts 2) (a : Dens κs write-kinds.ps) (x y : resT write-kinds.r κs .Denot) (e f : AtExit (endedOf 2 write-kinds.ps write-kinds.r) κs)
     → write-reads.Post κs a x e → write-reads.Post κs a y f → (x ≡ y) × (now (e .1 .1 .1 .0) ≡ now (f .1 .1 .1 .0))
 write-one κs a x y e f p q = (cc, cc)
-
--- the bytes of the part, and where in the caller's own memory it starts; all else of a reference is a ghost name, which no program sees
-pub position-part-one : (κs : Lfts 1) (a : Dens κs position-part-kinds.ps) (x y : resT position-part-kinds.r κs .Denot)
-    (e f : AtExit (endedOf 1 position-part-kinds.ps position-part-kinds.r) κs)
-    → position-part-reads.Post κs a x e → position-part-reads.Post κs a y f → (now x ≡ now y) × (x .ptr ≡ y .ptr)
-position-part-one κs a x y e f p q = (cc, cc)
 
 -- ---- what the crate's own files call
 

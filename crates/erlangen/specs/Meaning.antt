@@ -1,6 +1,6 @@
 -- What a Uni Erlangen string says, and what its reader answers.
 use mathlib.Core.Bool.{Bool, cond, not, Bool·beq}
-use mathlib.Core.List.{List, []}
+use mathlib.Core.List.{List}
 use Prim.Native.Nat.{ℕ}
 use lib.Dec.{eqb, ltb}
 use lib.ListN.{length, getD, take, drop}
@@ -9,7 +9,6 @@ use Rattle.wire.specs.Digits.{digit, pair}
 use Rattle.reading.specs.declared.Reading.{Reading}
 use Rattle.reading.specs.declared.Fault.the-variants.{Length, Byte}
 use Rattle.reading.specs.declared.Verdict.{Verdict}
-use Rattle.reading.specs.declared.Verdict.the-variants.{Good, Bad}
 use Rattle.reading.specs.Faults.{first}
 use Rattle.reading.specs.Years.{yearOf}
 use Rattle.strings.specs.declared.Places.{Places}
@@ -69,16 +68,6 @@ faultIn base s =
 unfoldable pub readErlangen : ℕ → List ℕ → Answer
 readErlangen base s = answerOf (faultIn base s) (readingOf base s) (coastingSaid s)
 
--- the position bytes of a string that is accepted, else none
-abbrev pub positionFor : Verdict → List ℕ → List ℕ
-positionFor Good s = take positionSize (drop positionAt s)
-positionFor (Bad fault) s = []
-
--- the place of the string at which that part starts; an empty one starts with the string
-abbrev pub startFor : Verdict → ℕ
-startFor Good = positionAt
-startFor (Bad fault) = 0
-
--- "The position part comes from a call of its own, which gives an empty part for a refused string."
-unfoldable pub positionOf : ℕ → List ℕ → List ℕ
-positionOf base s = positionFor (faultIn base s) s
+-- "26 position bytes at 41..66"
+abbrev pub positionBytes : List ℕ → List ℕ
+positionBytes s = take positionSize (drop positionAt s)

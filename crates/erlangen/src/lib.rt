@@ -1,8 +1,8 @@
-// Uni Erlangen strings, 68 bytes: their reader and the position part of one (`meaning`), and their writer (`writing`).
-// Every public function takes any input and answers as the definitions of specs/ say.
+// Uni Erlangen strings, 68 bytes: their lengths and their writer (`writing`); `clock_string` reads them. Every public function
+// takes any input and answers as the definitions of specs/ say.
 mod layout;
-mod meaning;
 mod offset;
+pub mod read;
 mod writing;
 
 // The format.

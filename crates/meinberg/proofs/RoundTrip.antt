@@ -113,6 +113,10 @@ module _ (base : ℕ) (s : List ℕ) (r : Reading) (coasting : Bool) (read : rea
   string-accepted : Accepted base s
   string-accepted = accepted base s (told .good)
 
+  -- "Meinberg, 32 bytes"
+  pub accepted-length : length s ≡ textLength
+  accepted-length = string-accepted .whole
+
   -- "and what you read writes back to the same bytes"
   pub read-writes : bytesOf r coasting ≡ s
   read-writes = rw (← told .time, ← told .coasts) (spelled-back base s string-accepted)

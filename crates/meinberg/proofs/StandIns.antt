@@ -18,7 +18,7 @@ use Rattle.meinberg.specs.Writing.{bytesOf, writeFault}
 use Rattle.meinberg.proofs.RoundTrip.{written-reads, read-writes, read-writable}
 use Rattle.meinberg.proofs.Worked.{leapSecond, leapDay, noSuchDay, atLeapSecond, worked}
 
-leap-second-read : readMeinberg base leapSecond ≡ Time atLeapSecond false
+pub leap-second-read : readMeinberg base leapSecond ≡ Time atLeapSecond false
 leap-second-read = cc worked
 
 no-such-day-refused : readMeinberg base noSuchDay ≡ No (record { code = 16; place = 3 })

@@ -5,16 +5,14 @@ use contract.Lifetimes.{Lfts}
 use denote.Triple.Clauses.{AtExit}
 use denote.Ref.{now}
 use Rattle.laws.proofs.Coincide.{Coincide}
-use Rattle.meinberg.proofs.Meinberg.read.Kinds as read-kinds
-use Rattle.meinberg.proofs.Meinberg.read.Reads as read-reads
+use Rattle.meinberg.proofs.read.for_clock_string.Kinds as for-clock-string-kinds
+use Rattle.meinberg.proofs.read.for_clock_string.Reads as for-clock-string-reads
 use Rattle.meinberg.proofs.Meinberg.write.Kinds as write-kinds
 use Rattle.meinberg.proofs.Meinberg.write.Reads as write-reads
 use Rattle.meinberg.proofs.layout.allowed_places.Kinds as allowed-places-kinds
 use Rattle.meinberg.proofs.layout.allowed_places.Reads as allowed-places-reads
 use Rattle.meinberg.proofs.layout.field_places.Kinds as field-places-kinds
 use Rattle.meinberg.proofs.layout.field_places.Reads as field-places-reads
-use Rattle.meinberg.proofs.read.answer_to.Kinds as answer-to-kinds
-use Rattle.meinberg.proofs.read.answer_to.Reads as answer-to-reads
 use Rattle.meinberg.proofs.write.into.Kinds as into-kinds
 use Rattle.meinberg.proofs.write.into.Reads as into-reads
 use Rattle.meinberg.proofs.zones.offset_of.Kinds as offset-of-kinds
@@ -26,8 +24,8 @@ use Rattle.meinberg.proofs.zones.zone_carried.Reads as zone-carried-rea
 use Rattle.meinberg.proofs.zones.zone_letter.Kinds as zone-letter-kinds
 use Rattle.meinberg.proofs.zones.zone_letter.Reads as zone-letter-reads
 
-pub read-one : Coincide 1 read-kinds.ps read-kinds.r read-reads.Post
-read-one κs a x y e f p q = cc
+pub for-clock-string-one : Coincide 1 for-clock-string-kinds.ps for-clock-string-kinds.r for-clock-string-reads.Post
+for-clock-string-one κs a x y e f p q = cc
 
 pub write-one : (κs : Lfts 1) (a : Dens κs write-kinds.ps) (x y : resT write-kinds.r κs .Denot) (e f : AtExit (endedOf 1 write-kinds.ps write-kinds.r) κs)
     → write-reads.Post κs a x e → write-reads.Post κs a y f → (x ≡ y) × (now (e .1 .1 .0) ≡ now (f .1 .1 .0))
@@ -40,9 +38,6 @@ allowed-places-one κs a x y e f p q = cc
 
 pub field-places-one : Coincide 0 field-places-kinds.ps field-places-kinds.r field-places-reads.Post
 field-places-one κs a x y e f p q = cc
-
-pub answer-to-one : Coincide 1 answer-to-kinds.ps answer-to-kinds.r answer-to-reads.Post
-answer-to-one κs a x y e f p q = cc
 
 pub into-one : (κs : Lfts 1) (a : Dens κs into-kinds.ps) (x y : resT into-kinds.r κs .Denot) (e f : AtExit (endedOf 1 into-kinds.ps into-kinds.r) κs)
     → into-reads.Post κs a x e → into-reads.Post κs a y f → (x ≡ y) × (now (e .1 .1 .0) ≡ now (f .1 .1 .0))

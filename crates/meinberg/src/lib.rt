@@ -1,18 +1,16 @@
-// The Meinberg string: 32 bytes, STX `D:dd.mm.yy;T:w;U:hh.mm.ss;uvxy` ETX. Every public function takes any value and
-// answers as the definitions of specs/ say.
+// The Meinberg string: 32 bytes, STX `D:dd.mm.yy;T:w;U:hh.mm.ss;uvxy` ETX, its lengths and its writer; `clock_string` reads
+// it. Every public function takes any value and answers as the definitions of specs/ say.
 use reading::Reading;
 use reading::Written;
-use strings::Answer;
 ghost use mathlib.Core.Path.{_≡_};
 ghost use lib.ListN.{length};
 ghost use Rattle.reading.specs.Years.{base};
 ghost use Rattle.reading.specs.Writing.{writtenOf, filled};
 ghost use Rattle.meinberg.specs.Layout.{textLength};
-ghost use Rattle.meinberg.specs.Meaning.{readMeinberg};
 ghost use Rattle.meinberg.specs.Writing.{bytesOf, writeFault};
 
 mod layout;
-mod read;
+pub mod read;
 mod write;
 mod zones;
 
@@ -24,13 +22,6 @@ impl Meinberg {
 
     // The largest place.
     pub const LAST: usize = 31;
-
-    // The time that a string says, with its coasting mark, or why it says none.
-    pub fn read(s: &[u8]) -> Answer
-        ensures { λ a. ⌜ a ≡ readMeinberg base (now (s .entry)) ⌝ }
-    {
-        read::answer_to(s)
-    }
 
     // Writes the string of a reading to the start of `out`; a refusal leaves `out` as it was.
     pub fn write(r: Reading, coasting: bool, out: &mut [u8]) -> Written

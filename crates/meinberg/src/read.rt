@@ -1,4 +1,5 @@
-// Reading a Meinberg string: what it says, field by field, and its first fault.
+// For `clock_string::read` alone, which is the reader of clock strings: what a Meinberg string says, field by field, and its
+// first fault.
 use super::Meinberg;
 use super::layout;
 use super::layout::allowed_places;
@@ -57,7 +58,7 @@ fn meaning(s: &[u8]) -> Reading
 }
 
 // The form comes first, so that a string of another form costs no more than finding that out.
-pub(crate) fn answer_to(s: &[u8]) -> Answer
+pub fn for_clock_string(s: &[u8]) -> Answer
     ensures { λ a. ⌜ a ≡ readMeinberg base (now (s .entry)) ⌝ }
 {
     if s.len() != Meinberg::LENGTH {

@@ -63,7 +63,7 @@ due-one l x y m p q =
     let place : x .place ≡ y .place = omega arith in
     λ i. record { code = code i; place = place i }
 
--- codes that are all in the order
+-- codes that are all among others
 abbrev pub allIn : List ℕ → List ℕ → Bool
 allIn all [] = true
 allIn all (c ∷ rest) = among c all && allIn all rest
@@ -73,6 +73,10 @@ one-of all [] c w m = never m
 one-of all (k ∷ rest) c w m =
     let p = both (among k all) (allIn all rest) w in
     ⊎-elim (λ h. ap (λ (n : ℕ). among n all) (eqb-true c k h) ∙ p .0) (λ h. one-of all rest c (p .1) h) (either (eqb c k) (among c rest) m)
+
+-- what is owed by some codes is owed by more of them
+pub owed-more : (l : List Objection) (codes more : List ℕ) (x : Refusal) → allIn more codes ≡ true → Owed l codes x → Owed l more x
+owed-more l codes more x w p = (p .0, one-of more codes (x .code) w (p .1))
 
 pub owed-one : (l : List Objection) (codes : List ℕ) (x y : Refusal) → allIn order codes ≡ true → Owed l codes x → Owed l codes y → x ≡ y
 owed-one l codes x y w p q = due-one l x y (one-of order codes (x .code) w (p .1)) (p .0) (q .0)

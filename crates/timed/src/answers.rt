@@ -38,10 +38,12 @@ fn of_reading(r: Reading) -> u64 {
     three(of_date(r), of_clock(r), of_flags(r))
 }
 
-pub(crate) fn of_string(answer: strings::Answer) -> u64 {
+// Meinberg's string counts 1 and Uni Erlangen's 2, as the kinds of a book do.
+pub(crate) fn of_string(answer: clock_string::Answer) -> u64 {
     match answer {
-        strings::Answer::Time(r, coasting) => wrapping_add_u64(of_reading(r), bit(coasting)),
-        strings::Answer::No(refusal) => of_refusal(refusal),
+        clock_string::Answer::Meinberg(r, coasting) => three(of_reading(r), bit(coasting), 1),
+        clock_string::Answer::Erlangen(r, coasting) => three(of_reading(r), bit(coasting), 2),
+        clock_string::Answer::No(refusal) => of_refusal(refusal),
     }
 }
 

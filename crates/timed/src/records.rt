@@ -1,27 +1,19 @@
 // Reading each record, bridging it, or sending what it says.
 use super::answers;
 use super::sent;
-use bridge::Kind;
 use bridge::bridge;
+use clock_string::read;
 use dcf77::Dcf77;
-use erlangen::Erlangen;
 use irig::Ieee1344;
-use meinberg::Meinberg;
 use std::num::wrapping_add_u64;
 ghost use Prim.Native.Nat.{_<_, _≤_};
 
-fn bridged(kind: Kind, given: &[u8], page: &mut [u8]) -> u64 {
-    answers::of_written(bridge(kind, given, page))
-}
-
 fn once(op: u8, given: &[u8], page: &mut [u8]) -> u64 {
     match op {
-        1 => answers::of_string(Meinberg::read(given)),
-        2 => answers::of_string(Erlangen::read(given)),
+        1 => answers::of_string(read(given)),
         3 => answers::of_frame(Ieee1344::read(given)),
         4 => answers::of_minute(Dcf77::read(given)),
-        13 => bridged(Kind::Meinberg, given, page),
-        14 => bridged(Kind::Erlangen, given, page),
+        13 => answers::of_written(bridge(given, page)),
         15 => sent::written(given, page),
         _ => given.len() as u64,
     }

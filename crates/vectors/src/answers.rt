@@ -19,13 +19,14 @@ pub(crate) fn answer(page: &mut [u8], op: u8, payload: &[u8]) {
 
 fn answer_by(op: u8, payload: &[u8]) {
     match op {
-        1..=4 => read_by(op, payload),
+        1 | 3 | 4 => read_by(op, payload),
         5..=8 | 10 | 15 => written(op, payload),
         9 => stamped(payload),
         11 => fed_frames(payload),
         12 => fed_minutes(payload),
         14 => tabled(),
-        20..=23 => every_change(op - 19, payload),
+        20 => every_change(1, payload),
+        22..=23 => every_change(op - 19, payload),
         _ => print_word(b"bad"),
     }
 }

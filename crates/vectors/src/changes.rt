@@ -14,6 +14,8 @@ fn verdict_of(told: Told) -> Refusal {
     match told {
         Told::Time(_) => Refusal { code: 0, place: 0 },
         Told::Beside(_, _) => Refusal { code: 0, place: 0 },
+        Told::Meinberg(_, _) => Refusal { code: 0, place: 0 },
+        Told::Erlangen(_, _) => Refusal { code: 0, place: 0 },
         Told::No(refusal) => refusal,
     }
 }
@@ -77,7 +79,7 @@ fn print_changes(format: u8, copy: &mut [u8], length: usize)
     print_number(b' ', others)
 }
 
-// 1 Meinberg, 2 Uni Erlangen, 3 IEEE 1344, 4 DCF77. An input of more than 128 bytes is longer than any of theirs, and bad.
+// 1 clock strings, 3 IEEE 1344, 4 DCF77. An input of more than 128 bytes is longer than any of theirs, and bad.
 pub(crate) fn every_change(format: u8, payload: &[u8]) {
     if 128 < payload.len() {
         return print_word(b"bad");

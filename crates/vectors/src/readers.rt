@@ -4,24 +4,25 @@ use super::print::print_number;
 use super::print::print_word;
 use super::stamped::print_refused;
 use dcf77::Dcf77;
-use erlangen::Erlangen;
 use irig::Ieee1344;
-use meinberg::Meinberg;
 use reading::LocalMinusUtc;
 use reading::Reading;
 use reading::Refusal;
 
-// A time, one with what stands beside it, or a refusal.
+// A time, one with what stands beside it, one of either clock string with its coasting mark, or a refusal.
 pub(crate) enum Told {
     Time(Reading),
     Beside(Reading, u64),
+    Meinberg(Reading, bool),
+    Erlangen(Reading, bool),
     No(Refusal),
 }
 
-fn of_string(answer: strings::Answer) -> Told {
+fn of_string(answer: clock_string::Answer) -> Told {
     match answer {
-        strings::Answer::Time(r, coasting) => Told::Beside(r, bit(coasting)),
-        strings::Answer::No(refusal) => Told::No(refusal),
+        clock_string::Answer::Meinberg(r, coasting) => Told::Meinberg(r, coasting),
+        clock_string::Answer::Erlangen(r, coasting) => Told::Erlangen(r, coasting),
+        clock_string::Answer::No(refusal) => Told::No(refusal),
     }
 }
 
@@ -46,11 +47,10 @@ fn of_minute(answer: dcf77::Answer) -> Told {
     }
 }
 
-// 1 Meinberg, 2 Uni Erlangen, 3 IEEE 1344, 4 DCF77.
+// 1 clock strings, 3 IEEE 1344, 4 DCF77.
 pub(crate) fn told_by(format: u8, input: &[u8]) -> Told {
     match format {
-        1 => of_string(Meinberg::read(input)),
-        2 => of_string(Erlangen::read(input)),
+        1 => of_string(clock_string::read(input)),
         3 => of_frame(Ieee1344::read(input)),
         _ => of_minute(Dcf77::read(input)),
     }
@@ -65,8 +65,7 @@ fn print_offset(mark: u8, offset: LocalMinusUtc) {
     print_number(mark, offset.east() as u64)
 }
 
-fn print_time(mark: u8, r: Reading) {
-    print_word(b"time");
+fn print_fields(mark: u8, r: Reading) {
     print_number(mark, r.year as u64);
     print_number(mark, r.month as u64);
     print_number(mark, r.day as u64);
@@ -81,23 +80,31 @@ fn print_time(mark: u8, r: Reading) {
     print_number(mark, r.quality as u64)
 }
 
+fn print_beside(word: &[u8], mark: u8, r: Reading, beside: u64) {
+    print_word(word);
+    print_fields(mark, r);
+    print_number(mark, beside)
+}
+
 // The mark stands between the words.
 pub(crate) fn print_told(mark: u8, told: Told) {
     match told {
-        Told::Time(r) => print_time(mark, r),
-        Told::Beside(r, beside) => {
-            print_time(mark, r);
-            print_number(mark, beside)
+        Told::Time(r) => {
+            print_word(b"time");
+            print_fields(mark, r)
         }
+        Told::Beside(r, beside) => print_beside(b"time", mark, r, beside),
+        Told::Meinberg(r, coasting) => print_beside(b"meinberg", mark, r, bit(coasting)),
+        Told::Erlangen(r, coasting) => print_beside(b"erlangen", mark, r, bit(coasting)),
         Told::No(refusal) => print_refused(mark, refusal),
     }
 }
 
-// The line of a reader; Uni Erlangen's has the position part too.
+// The line of a reader; that of clock strings has the position part too.
 pub(crate) fn read_by(format: u8, payload: &[u8]) {
     print_told(b' ', told_by(format, payload));
-    if format == 2 {
+    if format == 1 {
         print_word(b" part ");
-        print_hex(Erlangen::position_part(payload))
+        print_hex(clock_string::position_part(payload))
     }
 }

@@ -9,7 +9,6 @@ use super::sent::leap_in;
 use super::sent::rule_in;
 use super::sent::sent_in;
 use super::stamped::print_refused;
-use bridge::Kind;
 use bridge::bridge;
 use dcf77::Dcf77;
 use erlangen::Erlangen;
@@ -24,13 +23,6 @@ fn behind(payload: &[u8], first: usize) -> &[u8] {
         return &payload[0..0];
     }
     &payload[first..]
-}
-
-fn kind_of(payload: &[u8]) -> Kind {
-    if byte(payload, 0) == 1 {
-        return Kind::Meinberg;
-    }
-    Kind::Erlangen
 }
 
 // 5 Meinberg, 6 Uni Erlangen, 7 IEEE 1344, 8 DCF77, from a reading, what stands beside it and the position part.
@@ -54,10 +46,10 @@ fn send(payload: &[u8], buffer: &mut [u8]) -> Written {
     sender.write(sent_in(payload), pair(payload, 17), buffer)
 }
 
-// 10 is the bridge: a kind, 1 Meinberg or 2 Uni Erlangen, the room and the string; 15 is a telegram.
+// 10 is the bridge: the room and the string; 15 is a telegram.
 fn write_all_by(op: u8, payload: &[u8], buffer: &mut [u8]) -> Written {
     match op {
-        10 => bridge(kind_of(payload), behind(payload, 2), buffer),
+        10 => bridge(behind(payload, 1), buffer),
         15 => send(payload, buffer),
         _ => write_by(op, payload, buffer),
     }
@@ -66,7 +58,7 @@ fn write_all_by(op: u8, payload: &[u8], buffer: &mut [u8]) -> Written {
 // Where a payload says how many bytes are lent.
 fn room_in(op: u8, payload: &[u8]) -> u8 {
     match op {
-        10 => byte(payload, 1),
+        10 => byte(payload, 0),
         15 => byte(payload, 19),
         _ => byte(payload, 14),
     }
@@ -74,8 +66,7 @@ fn room_in(op: u8, payload: &[u8]) -> u8 {
 
 fn is_whole(op: u8, payload: &[u8]) -> bool {
     if op == 10 {
-        let kind = byte(payload, 0);
-        return (2 <= payload.len()) & (1 <= kind) & (kind <= 2);
+        return 1 <= payload.len();
     }
     if op == 15 {
         return 20 <= payload.len();

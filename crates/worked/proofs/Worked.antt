@@ -1,6 +1,6 @@
 -- "Cases 1 to 10 are proved of the written definitions by a single statement over a list of them." The same statement holds of
--- a second list, which pins codes, letters and pulses that the cases leave open, of a third of month ends, of a fourth of places, and of
--- a fifth of telegrams.
+-- a second list, which pins codes, letters and pulses that the cases leave open, of a third of month ends, of a fourth of places, of
+-- a fifth of telegrams, and of a sixth of both clock strings.
 use mathlib.Core.List.{List, map}
 use mathlib.Core.Path.{_≡_, refl}
 use Rattle.calendar.specs.Calendar.{leapYear, daysIn, daysBefore, yearLength, daysBeforeYear, dayOfYear, dayNumber, weekdayOf, isMonth, lastDay, isDay, isDate, dayBefore, dayAfter, yearAfter, monthUpTo, inYear, monthDay}
@@ -32,7 +32,9 @@ use Rattle.dcf77.specs.Zones as minute-zones
 use Rattle.dcf77.specs.Forms as forms
 use Rattle.dcf77.specs.Reader as minute
 use Rattle.dcf77.specs.Writer as minute-writing
-use Rattle.bridge.specs.Bridge.{pendingOf, readString, bridgeAnswer, bridgeFilled}
+use Rattle.clock_string.specs.Reader.{readString}
+use Rattle.clock_string.specs.Position.{positionOf}
+use Rattle.bridge.specs.Bridge.{pendingOf, bridgeAnswer, bridgeFilled}
 use Rattle.summer.specs.Changes.{daysUntil, changeDate, changed, isSummer, hourBefore, announcesChange}
 use Rattle.summer.specs.Rules as rules
 use Rattle.telegram.specs.Telegram.{utcSent, namedMinute, namedSummer, sameDate, announcesLeap, telegramReading}
@@ -48,13 +50,14 @@ use Rattle.worked.specs.Pinned.{pinned}
 use Rattle.worked.specs.MonthEnds.{monthEnds}
 use Rattle.worked.specs.Places.{places}
 use Rattle.worked.specs.Telegrams.{telegrams}
+use Rattle.worked.specs.ClockStrings.{clockStrings}
 
 -- each question of the list is answered as the paper answers it
 abbrev pub AsPaper : List Case → Type 0
 AsPaper l = map (λ (c : Case). answerTo (c .asked)) l ≡ map (λ (c : Case). c .answer) l
 
-pub worked : AsPaper cases × AsPaper pinned × AsPaper monthEnds × AsPaper places × AsPaper telegrams
-unfolding cases pinned monthEnds places telegrams withOnes turned answerTo
+pub worked : AsPaper cases × AsPaper pinned × AsPaper monthEnds × AsPaper places × AsPaper telegrams × AsPaper clockStrings
+unfolding cases pinned monthEnds places telegrams clockStrings withOnes turned answerTo
     stampOf stampAt stampNumber hasStamp checkedOf timeBad dateBad sixtyBad leapMinute closesWithLeap afterLeap withinMinute leapWindow changeWindow
     utcOf onDay utcMinutes inHundred yearOf west east offsetGood localOf number
     leapYear daysIn daysBefore yearLength daysBeforeYear dayOfYear dayNumber weekdayOf
@@ -82,11 +85,11 @@ unfolding cases pinned monthEnds places telegrams withOnes turned answerTo
     minute-writing.plainOf minute-writing.evened minute-writing.withParity minute-writing.valuesOf minute-writing.bytesOf
     minute-writing.headBad minute-writing.checkedWith minute-writing.notCarried minute-writing.carryFault
     minute-writing.needed minute-writing.roomFault minute-writing.writeFault
-    pendingOf readString bridgeAnswer bridgeFilled
+    readString positionOf pendingOf bridgeAnswer bridgeFilled
     minuteAfter withinDay localMinutes shownAt localAt
     daysUntil changeDate changed isSummer hourBefore announcesChange
     rules.weekdayBad rules.dateBad rules.tooLate rules.setDayBad rules.dayIn rules.crossed rules.ruleBad
     utcSent namedMinute namedSummer sameDate announcesLeap telegramReading
     sending.timeBad sending.leapDateBad sending.outside sending.faultWith sending.sendFault sending.telegramFault
     bodyLength readBody recordAt nextAt recordsFrom decimal digitsBefore lineAt linesOf bodyText listing
-worked = (refl, refl, refl, refl, refl)
+worked = (refl, refl, refl, refl, refl, refl)

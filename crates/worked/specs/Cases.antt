@@ -9,8 +9,7 @@ use Rattle.worked.specs.Questions.{
   weekday,
   stamp,
   stampOfString,
-  meinberg,
-  erlangen,
+  clockString,
   pulses,
   marks,
   toPulses,
@@ -18,7 +17,7 @@ use Rattle.worked.specs.Questions.{
   day,
   stamped,
   told,
-  toldString,
+  toldErlangen,
   toldMinute,
   refused,
   wrote,
@@ -62,7 +61,7 @@ cases =
     ∷ gives (stamp (at 2017 1 2 0 59 60 (plus 2))) (refused 9 0)
     -- 5. 29.02.24 is weekday 4; 29.02.23: code 5, which by L5 is 16 at the day
     ∷ gives (weekday (date 2024 2 29)) (day 4)
-    ∷ gives (meinberg string5) (refused 16 3)
+    ∷ gives (clockString string5) (refused 16 3)
     -- 6. 2024-02-29 12:34:56, offset +2, no flags, quality 0: the ones of the IEEE 1344 frame
     ∷ gives (toPulses (case6 (plus 2)) (sevens 102)) (wrote 100 (frame6 ++ sevens 2))
     ∷ gives (pulses frame6) (told (case6 (plus 2)))
@@ -85,10 +84,10 @@ cases =
     ∷ gives (toPulses (case6 (minus 25)) (sevens 100)) (wroteNone 8 0 (sevens 100))
     ∷ gives (pulses (frame10 (67 ∷ 68 ∷ 70 ∷ []))) (refused 8 64)
     -- the same in Uni Erlangen strings: `+14:00`, `+14:30`, `-12:00`, `-12:30`
-    ∷ gives (erlangen (string10 (43 ∷ 49 ∷ 52 ∷ 58 ∷ 48 ∷ 48 ∷ []))) (toldString (case6 (plus 28)) false)
-    ∷ gives (erlangen (string10 (43 ∷ 49 ∷ 52 ∷ 58 ∷ 51 ∷ 48 ∷ []))) (refused 8 24)
-    ∷ gives (erlangen (string10 (45 ∷ 49 ∷ 50 ∷ 58 ∷ 48 ∷ 48 ∷ []))) (toldString (case6 (minus 24)) false)
-    ∷ gives (erlangen (string10 (45 ∷ 49 ∷ 50 ∷ 58 ∷ 51 ∷ 48 ∷ []))) (refused 8 24)
+    ∷ gives (clockString (string10 (43 ∷ 49 ∷ 52 ∷ 58 ∷ 48 ∷ 48 ∷ []))) (toldErlangen (case6 (plus 28)) false)
+    ∷ gives (clockString (string10 (43 ∷ 49 ∷ 52 ∷ 58 ∷ 51 ∷ 48 ∷ []))) (refused 8 24)
+    ∷ gives (clockString (string10 (45 ∷ 49 ∷ 50 ∷ 58 ∷ 48 ∷ 48 ∷ []))) (toldErlangen (case6 (minus 24)) false)
+    ∷ gives (clockString (string10 (45 ∷ 49 ∷ 50 ∷ 58 ∷ 51 ∷ 48 ∷ []))) (refused 8 24)
     -- the largest stamp
     ∷ gives (stamp (at 2099 12 31 23 59 60 (plus 0))) (stamped 3155796524)
     ∷ []

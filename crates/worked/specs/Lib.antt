@@ -5,3 +5,4 @@ pub mod Pinned
 pub mod MonthEnds
 pub mod Places
 pub mod Telegrams
+pub mod ClockStrings

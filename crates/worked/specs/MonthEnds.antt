@@ -3,9 +3,8 @@
 use mathlib.Core.Bool.{Bool, true, false}
 use mathlib.Core.List.{List, [], _∷_, _++_}
 use Prim.Native.Nat.{ℕ}
-use Rattle.bridge.specs.declared.Kind.the-variants.{Meinberg}
 use Rattle.reading.specs.declared.Reading.{Reading}
-use Rattle.worked.specs.Questions.{Case, gives, stamp, stampOfString, meinberg, marks, toMarks, bridged, listed, stamped, toldString, toldMinute, refused, wrote, wroteNone, text}
+use Rattle.worked.specs.Questions.{Case, gives, stamp, stampOfString, clockString, marks, toMarks, bridged, listed, stamped, toldMeinberg, toldMinute, refused, wrote, wroteNone, text}
 use Rattle.worked.specs.Given.{flagged, at, plus, minus, frameWith, minuteWith, meinbergAt, sevens}
 
 -- ---- second 60
@@ -117,25 +116,25 @@ monthEnds =
     ∷ gives (stamp (at 2024 4 30 22 59 60 (plus 0))) (refused 9 0)
     ∷ gives (stamp (sixtyOn 2024 5 1)) (refused 9 0)
     -- strings: 29.02.24 `U` is accepted, 28.02.24 is code 9, 28.02.23 is accepted, and so are 31.03. and 30.04.
-    ∷ gives (meinberg lastOfFebruary) (toldString (sixtyOn 2024 2 29) false)
-    ∷ gives (meinberg dayTooEarly) (refused 9 24)
-    ∷ gives (meinberg (meinbergAt 28 2 23 2 23 59 60 utc)) (toldString (sixtyOn 2023 2 28) false)
-    ∷ gives (meinberg (meinbergAt 31 3 24 7 23 59 60 utc)) (toldString (sixtyOn 2024 3 31) false)
-    ∷ gives (meinberg (meinbergAt 30 4 24 2 23 59 60 utc)) (toldString (sixtyOn 2024 4 30) false)
+    ∷ gives (clockString lastOfFebruary) (toldMeinberg (sixtyOn 2024 2 29) false)
+    ∷ gives (clockString dayTooEarly) (refused 9 24)
+    ∷ gives (clockString (meinbergAt 28 2 23 2 23 59 60 utc)) (toldMeinberg (sixtyOn 2023 2 28) false)
+    ∷ gives (clockString (meinbergAt 31 3 24 7 23 59 60 utc)) (toldMeinberg (sixtyOn 2024 3 31) false)
+    ∷ gives (clockString (meinbergAt 30 4 24 2 23 59 60 utc)) (toldMeinberg (sixtyOn 2024 4 30) false)
     -- the same second told at +2, at +4, both on the local next day, and at -14
     ∷ gives (stampOfString lastOfFebruary) (stamped 762575225)
     ∷ gives (stampOfString (meinbergAt 1 3 24 5 0 59 60 winterLeap)) (stamped 762575225)
     ∷ gives (stampOfString (meinbergAt 1 3 24 5 1 59 60 summerLeap)) (stamped 762575225)
     ∷ gives (stamp (at 2024 2 29 16 59 60 (minus 14))) (stamped 762575225)
     -- a local month end that is none of UTC: 29.02.24 at +2, 31.03.24 at +4
-    ∷ gives (meinberg (meinbergAt 29 2 24 4 23 59 60 winter)) (refused 9 24)
-    ∷ gives (meinberg (meinbergAt 31 3 24 7 23 59 60 summer)) (refused 9 24)
+    ∷ gives (clockString (meinbergAt 29 2 24 4 23 59 60 winter)) (refused 9 24)
+    ∷ gives (clockString (meinbergAt 31 3 24 7 23 59 60 summer)) (refused 9 24)
     -- the pending bit, pulse 60: clear at 23:59:00, set at 23:59:01 and 23:59:59, clear at 23:59:60
-    ∷ gives (bridged Meinberg (lastOfApril 0) (sevens 100)) (wrote 100 (aprilFrame [] (82 ∷ 86 ∷ 88 ∷ 93 ∷ 95 ∷ 97 ∷ [])))
-    ∷ gives (bridged Meinberg (lastOfApril 1) (sevens 100)) (wrote 100 (aprilFrame (1 ∷ []) (60 ∷ 80 ∷ 82 ∷ 86 ∷ 88 ∷ 93 ∷ 95 ∷ 97 ∷ [])))
-    ∷ gives (bridged Meinberg (lastOfApril 59) (sevens 100)) (wrote 100 (aprilFrame (1 ∷ 4 ∷ 6 ∷ 8 ∷ []) (60 ∷ 75 ∷ 80 ∷ 81 ∷ 82 ∷ 83 ∷ 84 ∷ 85 ∷ 86 ∷ 88 ∷ 93 ∷ 95 ∷ 97 ∷ [])))
-    ∷ gives (bridged Meinberg (lastOfApril 60) (sevens 100)) (wrote 100 (aprilFrame (7 ∷ 8 ∷ []) (87 ∷ 88 ∷ 93 ∷ 95 ∷ 97 ∷ [])))
-    ∷ gives (bridged Meinberg dayTooEarly (sevens 100)) (wroteNone 9 24 (sevens 100))
+    ∷ gives (bridged (lastOfApril 0) (sevens 100)) (wrote 100 (aprilFrame [] (82 ∷ 86 ∷ 88 ∷ 93 ∷ 95 ∷ 97 ∷ [])))
+    ∷ gives (bridged (lastOfApril 1) (sevens 100)) (wrote 100 (aprilFrame (1 ∷ []) (60 ∷ 80 ∷ 82 ∷ 86 ∷ 88 ∷ 93 ∷ 95 ∷ 97 ∷ [])))
+    ∷ gives (bridged (lastOfApril 59) (sevens 100)) (wrote 100 (aprilFrame (1 ∷ 4 ∷ 6 ∷ 8 ∷ []) (60 ∷ 75 ∷ 80 ∷ 81 ∷ 82 ∷ 83 ∷ 84 ∷ 85 ∷ 86 ∷ 88 ∷ 93 ∷ 95 ∷ 97 ∷ [])))
+    ∷ gives (bridged (lastOfApril 60) (sevens 100)) (wrote 100 (aprilFrame (7 ∷ 8 ∷ []) (87 ∷ 88 ∷ 93 ∷ 95 ∷ 97 ∷ [])))
+    ∷ gives (bridged dayTooEarly (sevens 100)) (wroteNone 9 24 (sevens 100))
     -- "a 60-mark minute that announces a leap and names 00:00 UTC of such a first becomes 9"; the 61-mark one is accepted, and its
     -- stamp is the calendar's
     ∷ gives (marks (marchMarks 59)) (refused 9 59)

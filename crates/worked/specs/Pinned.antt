@@ -4,12 +4,10 @@ use mathlib.Core.Bool.{true, false}
 use mathlib.Core.List.{List, [], _∷_, _++_}
 use Prim.Native.Nat.{ℕ}
 use lib.ListN.{take}
-use Rattle.bridge.specs.declared.Kind.the-variants.{Meinberg, Erlangen}
 use Rattle.worked.specs.Questions.{
   Case,
   gives,
-  meinberg,
-  erlangen,
+  clockString,
   pulses,
   marks,
   toMeinberg,
@@ -18,7 +16,8 @@ use Rattle.worked.specs.Questions.{
   toMarks,
   bridged,
   told,
-  toldString,
+  toldMeinberg,
+  toldErlangen,
   toldMinute,
   refused,
   wrote,
@@ -70,7 +69,7 @@ pinned =
     -- code 2 and the lowest bad place: pulses 5 and 76 are 1; mark 20 is 0; a string ends in `X`
     ∷ gives (pulses (turned (5 ∷ 76 ∷ []) frame6)) (refused 2 5)
     ∷ gives (marks (turned (20 ∷ []) minute8)) (refused 2 20)
-    ∷ gives (meinberg (meinberg6 32 32 32 88)) (refused 2 30)
+    ∷ gives (clockString (meinberg6 32 32 32 88)) (refused 2 30)
     -- code 3, also where the parity is wrong: the second ends in 10, the minute in 12
     ∷ gives (pulses (turned (3 ∷ 4 ∷ []) frame6)) (refused 3 1)
     ∷ gives (marks (turned (24 ∷ []) minute8)) (refused 3 21)
@@ -90,7 +89,7 @@ pinned =
     ∷ gives (marks (turned (18 ∷ []) minute8)) (refused 8 17)
     ∷ gives (marks (turned (17 ∷ []) minute8)) (refused 8 17)
     -- code 9: `L` at second 56; 61 marks where no leap second is due
-    ∷ gives (erlangen (erlangen6 hourAhead (32 ∷ 32 ∷ 32 ∷ 32 ∷ 32 ∷ 32 ∷ 76 ∷ []))) (refused 9 20)
+    ∷ gives (clockString (erlangen6 hourAhead (32 ∷ 32 ∷ 32 ∷ 32 ∷ 32 ∷ 32 ∷ 76 ∷ []))) (refused 9 20)
     ∷ gives (marks (minuteWith 60 ones8)) (refused 9 60)
     -- code 10: pulse 61 is 1
     ∷ gives (pulses (turned (61 ∷ 75 ∷ []) frame6)) (refused 10 61)
@@ -110,20 +109,20 @@ pinned =
     ∷ gives (marks (turned (19 ∷ []) minute8)) (toldMinute (leapDay 0 (plus 2) false true false 0) 0)
     ∷ gives (marks (turned (17 ∷ 18 ∷ []) minute8)) (toldMinute (leapDay 0 (plus 4) true false false 0) 0)
     -- `    `, `#*S!`, and in a Uni Erlangen string `#*S!A`
-    ∷ gives (meinberg (meinberg6 32 32 32 32)) (toldString (case6 (plus 2)) false)
-    ∷ gives (meinberg (meinberg6 35 42 83 33)) (toldString (leapDay 56 (plus 4) true false true 15) true)
-    ∷ gives (erlangen (erlangen6 hourAhead (35 ∷ 42 ∷ 83 ∷ 33 ∷ 65 ∷ 32 ∷ 32 ∷ []))) (toldString (leapDay 56 (plus 2) true true true 15) true)
+    ∷ gives (clockString (meinberg6 32 32 32 32)) (toldMeinberg (case6 (plus 2)) false)
+    ∷ gives (clockString (meinberg6 35 42 83 33)) (toldMeinberg (leapDay 56 (plus 4) true false true 15) true)
+    ∷ gives (clockString (erlangen6 hourAhead (35 ∷ 42 ∷ 83 ∷ 33 ∷ 65 ∷ 32 ∷ 32 ∷ []))) (toldErlangen (leapDay 56 (plus 2) true true true 15) true)
     -- the same bytes written, and `-12:00`
     ∷ gives (toMeinberg (leapDay 56 (plus 4) true false true 15) true (sevens 34)) (wrote 32 (meinberg6 35 42 83 33 ++ sevens 2))
     ∷ gives (toErlangen (leapDay 56 (minus 24) true true true 15) true position (sevens 70)) (wrote 68 (erlangen6 (45 ∷ 49 ∷ 50 ∷ 58 ∷ 48 ∷ 48 ∷ []) (35 ∷ 42 ∷ 83 ∷ 33 ∷ 65 ∷ 32 ∷ 32 ∷ []) ++ sevens 2))
     -- the bridge at the edges of both windows: pulses 60 and 62 are 1 at 23:59:01 and 23:59:59, and at 23:58:59, 23:59:00 and
     -- 23:59:60 they are not
-    ∷ gives (bridged Erlangen (lastMinutes 58 59 32) (sevens 101)) (wrote 100 (lastFrame (1 ∷ 4 ∷ 6 ∷ 8 ∷ []) (75 ∷ 80 ∷ 81 ∷ 86 ∷ 88 ∷ 93 ∷ 95 ∷ 97 ∷ []) ++ sevens 1))
-    ∷ gives (bridged Erlangen (lastMinutes 59 0 32) (sevens 101)) (wrote 100 (lastFrame (10 ∷ []) (82 ∷ 86 ∷ 88 ∷ 93 ∷ 95 ∷ 97 ∷ []) ++ sevens 1))
-    ∷ gives (bridged Erlangen (lastMinutes 59 1 32) (sevens 101)) (wrote 100 (lastFrame (1 ∷ 10 ∷ []) (60 ∷ 62 ∷ 75 ∷ 80 ∷ 82 ∷ 86 ∷ 88 ∷ 93 ∷ 95 ∷ 97 ∷ []) ++ sevens 1))
-    ∷ gives (bridged Erlangen (lastMinutes 59 59 32) (sevens 101)) (wrote 100 (lastFrame (1 ∷ 4 ∷ 6 ∷ 8 ∷ 10 ∷ []) (60 ∷ 62 ∷ 80 ∷ 81 ∷ 82 ∷ 83 ∷ 84 ∷ 85 ∷ 86 ∷ 88 ∷ 93 ∷ 95 ∷ 97 ∷ []) ++ sevens 1))
-    ∷ gives (bridged Erlangen (lastMinutes 59 60 76) (sevens 101)) (wrote 100 (leapFrame ++ sevens 1))
+    ∷ gives (bridged (lastMinutes 58 59 32) (sevens 101)) (wrote 100 (lastFrame (1 ∷ 4 ∷ 6 ∷ 8 ∷ []) (75 ∷ 80 ∷ 81 ∷ 86 ∷ 88 ∷ 93 ∷ 95 ∷ 97 ∷ []) ++ sevens 1))
+    ∷ gives (bridged (lastMinutes 59 0 32) (sevens 101)) (wrote 100 (lastFrame (10 ∷ []) (82 ∷ 86 ∷ 88 ∷ 93 ∷ 95 ∷ 97 ∷ []) ++ sevens 1))
+    ∷ gives (bridged (lastMinutes 59 1 32) (sevens 101)) (wrote 100 (lastFrame (1 ∷ 10 ∷ []) (60 ∷ 62 ∷ 75 ∷ 80 ∷ 82 ∷ 86 ∷ 88 ∷ 93 ∷ 95 ∷ 97 ∷ []) ++ sevens 1))
+    ∷ gives (bridged (lastMinutes 59 59 32) (sevens 101)) (wrote 100 (lastFrame (1 ∷ 4 ∷ 6 ∷ 8 ∷ 10 ∷ []) (60 ∷ 62 ∷ 80 ∷ 81 ∷ 82 ∷ 83 ∷ 84 ∷ 85 ∷ 86 ∷ 88 ∷ 93 ∷ 95 ∷ 97 ∷ []) ++ sevens 1))
+    ∷ gives (bridged (lastMinutes 59 60 76) (sevens 101)) (wrote 100 (leapFrame ++ sevens 1))
     -- case 2's string, and 99 bytes of room
-    ∷ gives (bridged Meinberg string2 (sevens 100)) (wrote 100 leapFrame)
-    ∷ gives (bridged Meinberg string2 (sevens 99)) (wroteNone 1 0 (sevens 99))
+    ∷ gives (bridged string2 (sevens 100)) (wrote 100 leapFrame)
+    ∷ gives (bridged string2 (sevens 99)) (wroteNone 1 0 (sevens 99))
     ∷ []

@@ -6,13 +6,11 @@ use mathlib.Core.Bool.{false}
 use mathlib.Core.List.{List, [], _∷_, _++_}
 use Prim.Native.Nat.{ℕ}
 use lib.ListN.{take, drop, replicate}
-use Rattle.bridge.specs.declared.Kind.the-variants.{Meinberg, Erlangen}
 use Rattle.worked.specs.Questions.{
   Case,
   gives,
   stamp,
-  meinberg,
-  erlangen,
+  clockString,
   pulses,
   marks,
   toMeinberg,
@@ -66,36 +64,36 @@ lines =
 unfoldable pub places : List Case
 places =
     -- Meinberg, 15: hour 24, minute 60, second 61; hour and second; hour 24 with month 13
-    gives (meinberg (clock 29 2 4 24 34 56)) (refused 15 18)
-    ∷ gives (meinberg (clock 29 2 4 12 60 56)) (refused 15 21)
-    ∷ gives (meinberg (clock 29 2 4 12 34 61)) (refused 15 24)
-    ∷ gives (meinberg (clock 29 2 4 24 34 61)) (refused 15 18)
-    ∷ gives (meinberg (clock 29 13 4 24 34 56)) (refused 15 18)
+    gives (clockString (clock 29 2 4 24 34 56)) (refused 15 18)
+    ∷ gives (clockString (clock 29 2 4 12 60 56)) (refused 15 21)
+    ∷ gives (clockString (clock 29 2 4 12 34 61)) (refused 15 24)
+    ∷ gives (clockString (clock 29 2 4 24 34 61)) (refused 15 18)
+    ∷ gives (clockString (clock 29 13 4 24 34 56)) (refused 15 18)
     -- 16: "Under a bad month a day is bad only outside 1..31"; weekday 0, alone and with a bad month
-    ∷ gives (meinberg (clock 31 13 4 12 34 56)) (refused 16 6)
-    ∷ gives (meinberg (clock 0 13 4 12 34 56)) (refused 16 3)
-    ∷ gives (meinberg (clock 32 13 4 12 34 56)) (refused 16 3)
-    ∷ gives (meinberg (clock 31 0 4 12 34 56)) (refused 16 6)
-    ∷ gives (meinberg (clock 30 2 4 12 34 56)) (refused 16 3)
-    ∷ gives (meinberg (clock 29 2 0 12 34 56)) (refused 16 14)
-    ∷ gives (meinberg (clock 29 13 0 12 34 56)) (refused 16 6)
+    ∷ gives (clockString (clock 31 13 4 12 34 56)) (refused 16 6)
+    ∷ gives (clockString (clock 0 13 4 12 34 56)) (refused 16 3)
+    ∷ gives (clockString (clock 32 13 4 12 34 56)) (refused 16 3)
+    ∷ gives (clockString (clock 31 0 4 12 34 56)) (refused 16 6)
+    ∷ gives (clockString (clock 30 2 4 12 34 56)) (refused 16 3)
+    ∷ gives (clockString (clock 29 2 0 12 34 56)) (refused 16 14)
+    ∷ gives (clockString (clock 29 13 0 12 34 56)) (refused 16 6)
     -- 6 a Wednesday, also at a second 60; 9 that second
-    ∷ gives (meinberg (clock 29 2 3 12 34 56)) (refused 6 14)
-    ∷ gives (meinberg (clock 29 2 3 12 34 60)) (refused 6 14)
-    ∷ gives (meinberg (clock 29 2 4 12 34 60)) (refused 9 24)
+    ∷ gives (clockString (clock 29 2 3 12 34 56)) (refused 6 14)
+    ∷ gives (clockString (clock 29 2 3 12 34 60)) (refused 6 14)
+    ∷ gives (clockString (clock 29 2 4 12 34 60)) (refused 9 24)
     -- the same in Uni Erlangen strings
-    ∷ gives (erlangen (long 29 2 4 24 34 56)) (refused 15 14)
-    ∷ gives (erlangen (long 29 2 4 12 60 56)) (refused 15 17)
-    ∷ gives (erlangen (long 29 2 4 12 34 61)) (refused 15 20)
-    ∷ gives (erlangen (long 29 13 4 24 34 56)) (refused 15 14)
-    ∷ gives (erlangen (long 0 13 4 12 34 56)) (refused 16 1)
-    ∷ gives (erlangen (long 31 13 4 12 34 56)) (refused 16 4)
-    ∷ gives (erlangen (long 29 2 9 12 34 56)) (refused 16 11)
-    ∷ gives (erlangen (long 29 2 3 12 34 56)) (refused 6 11)
-    ∷ gives (erlangen (long 29 2 4 12 34 60)) (refused 9 20)
+    ∷ gives (clockString (long 29 2 4 24 34 56)) (refused 15 14)
+    ∷ gives (clockString (long 29 2 4 12 60 56)) (refused 15 17)
+    ∷ gives (clockString (long 29 2 4 12 34 61)) (refused 15 20)
+    ∷ gives (clockString (long 29 13 4 24 34 56)) (refused 15 14)
+    ∷ gives (clockString (long 0 13 4 12 34 56)) (refused 16 1)
+    ∷ gives (clockString (long 31 13 4 12 34 56)) (refused 16 4)
+    ∷ gives (clockString (long 29 2 9 12 34 56)) (refused 16 11)
+    ∷ gives (clockString (long 29 2 3 12 34 56)) (refused 6 11)
+    ∷ gives (clockString (long 29 2 4 12 34 60)) (refused 9 20)
     -- 8, at the sign: `+01:10`, `-00:00`
-    ∷ gives (erlangen (erlangen6 (43 ∷ 48 ∷ 49 ∷ 58 ∷ 49 ∷ 48 ∷ []) noFlags)) (refused 8 24)
-    ∷ gives (erlangen (erlangen6 (45 ∷ 48 ∷ 48 ∷ 58 ∷ 48 ∷ 48 ∷ []) noFlags)) (refused 8 24)
+    ∷ gives (clockString (erlangen6 (43 ∷ 48 ∷ 49 ∷ 58 ∷ 49 ∷ 48 ∷ []) noFlags)) (refused 8 24)
+    ∷ gives (clockString (erlangen6 (45 ∷ 48 ∷ 48 ∷ 58 ∷ 48 ∷ 48 ∷ []) noFlags)) (refused 8 24)
     -- IEEE 1344, 3 at the field: the minute ends in 14, the hour in 10, the day in 10, its tens are 14, the year ends in 14, its tens are 10
     ∷ gives (pulses (turned (11 ∷ 13 ∷ []) frame6)) (refused 3 10)
     ∷ gives (pulses (turned (23 ∷ []) frame6)) (refused 3 20)
@@ -133,8 +131,8 @@ places =
     ∷ gives (marks (turned (39 ∷ 40 ∷ 45 ∷ 49 ∷ []) minute8)) (refused 16 45)
     ∷ gives (marks (turned (44 ∷ 45 ∷ 49 ∷ 58 ∷ []) minute8)) (refused 16 42)
     -- the bridge gives the string's place, and the listing prints it
-    ∷ gives (bridged Meinberg (clock 31 13 4 12 34 56) (sevens 100)) (wroteNone 16 6 (sevens 100))
-    ∷ gives (bridged Erlangen (long 29 13 4 24 34 56) (sevens 100)) (wroteNone 15 14 (sevens 100))
+    ∷ gives (bridged (clock 31 13 4 12 34 56) (sevens 100)) (wroteNone 16 6 (sevens 100))
+    ∷ gives (bridged (long 29 13 4 24 34 56) (sevens 100)) (wroteNone 15 14 (sevens 100))
     ∷ gives (listed ((1 ∷ clock 31 13 4 12 34 56) ++ (2 ∷ long 29 13 4 24 34 56))) (text lines)
     -- "Writers keep place 0", and so does stamping: hour 24 with month 13, month 13, quality 16 with an offset that is none, then 8 and 9
     ∷ gives (toMeinberg (at 2024 13 29 24 34 56 (plus 2)) false (sevens 32)) (wroteNone 15 0 (sevens 32))
@@ -158,9 +156,9 @@ places =
     ∷ gives (stamp (at 2024 2 29 12 34 60 (plus 29))) (refused 8 0)
     ∷ gives (stamp (at 2000 1 1 0 30 60 (plus 2))) (refused 9 0)
     -- the codes that remain of each reader and writer: 1 and 2 of the strings, 1, 2, 8, 9 and 17 of the writers
-    ∷ gives (meinberg (take 31 (clock 29 2 4 12 34 56))) (refused 1 0)
-    ∷ gives (erlangen (take 67 (long 29 2 4 12 34 56))) (refused 1 0)
-    ∷ gives (erlangen (9 ∷ drop 1 (long 29 2 4 12 34 56))) (refused 2 0)
+    ∷ gives (clockString (take 31 (clock 29 2 4 12 34 56))) (refused 1 0)
+    ∷ gives (clockString (take 67 (long 29 2 4 12 34 56))) (refused 1 0)
+    ∷ gives (clockString (9 ∷ drop 1 (long 29 2 4 12 34 56))) (refused 2 0)
     ∷ gives (toMeinberg (case6 (plus 2)) false (sevens 31)) (wroteNone 1 0 (sevens 31))
     ∷ gives (toMeinberg (flagged 2024 2 29 12 34 60 (plus 29) false false false 16) false (sevens 32)) (wroteNone 17 0 (sevens 32))
     ∷ gives (toErlangen (case6 (plus 2)) false position (sevens 67)) (wroteNone 1 0 (sevens 67))

@@ -15,13 +15,13 @@ use Rattle.reading.specs.declared.Stamp.the-variants.{At, Refused}
 use Rattle.reading.specs.Years.{base}
 use Rattle.reading.specs.Stamps.{stampOf}
 use Rattle.reading.specs.Writing.{writtenOf, filled}
-use Rattle.strings.specs.declared.Answer as strings
-use Rattle.strings.specs.declared.Answer.the-variants as string
+use Rattle.clock_string.specs.declared.Answer as strings
+use Rattle.clock_string.specs.declared.Answer.the-variants as string
+use Rattle.clock_string.specs.Reader.{readString}
+use Rattle.clock_string.specs.Position.{positionOf}
 use Rattle.meinberg.specs.Layout.{textLength}
-use Rattle.meinberg.specs.Meaning.{readMeinberg}
 use Rattle.meinberg.specs.Writing.{bytesOf as meinbergBytes, writeFault as meinbergFault}
 use Rattle.erlangen.specs.Layout.{size}
-use Rattle.erlangen.specs.Meaning.{readErlangen}
 use Rattle.erlangen.specs.Writing.{bytesOf as erlangenBytes, writeFault as erlangenFault}
 use Rattle.irig.specs.declared.Answer as frames
 use Rattle.irig.specs.declared.Answer.the-variants as frame
@@ -32,7 +32,6 @@ use Rattle.dcf77.specs.declared.Answer.the-variants as minute
 use Rattle.dcf77.specs.Forms.{lengthOf, dueLong}
 use Rattle.dcf77.specs.Reader.{readDcf77}
 use Rattle.dcf77.specs.Writer.{bytesOf as minuteBytes, writeFault as minuteFault}
-use Rattle.bridge.specs.declared.Kind.{Kind}
 use Rattle.bridge.specs.Bridge.{bridgeAnswer, bridgeFilled}
 use Rattle.summer.specs.declared.SetDay.{SetDay}
 use Rattle.summer.specs.Changes.{changeDate}
@@ -45,22 +44,23 @@ use Rattle.listing.specs.Listing.{listing}
 pub data Question : Type 0 where
   -- the weekday of a date
   weekday : Date → Question
-  -- the stamp of a reading, and that of what a Meinberg string says
+  -- the stamp of a reading, and that of what a clock string says
   stamp : Reading → Question
   stampOfString : List ℕ → Question
-  -- what the reader of each format answers to the bytes given
-  meinberg : List ℕ → Question
-  erlangen : List ℕ → Question
+  -- what the reader of clock strings, of frames and of minutes answers to the bytes given
+  clockString : List ℕ → Question
   pulses : List ℕ → Question
   marks : List ℕ → Question
+  -- the position part of a clock string
+  positionPart : List ℕ → Question
   -- what the writer of each format does with a reading and a lent buffer: beside the reading a coasting mark, a coasting mark
   -- and a position part, nothing, or a head
   toMeinberg : Reading → Bool → List ℕ → Question
   toErlangen : Reading → Bool → List ℕ → List ℕ → Question
   toPulses : Reading → List ℕ → Question
   toMarks : Reading → ℕ → List ℕ → Question
-  -- what the bridge does with a string of a kind and a lent buffer
-  bridged : Kind → List ℕ → List ℕ → Question
+  -- what the bridge does with a clock string and a lent buffer
+  bridged : List ℕ → List ℕ → Question
   -- the day of a year that a set day of a rule stands for
   changeOn : SetDay → ℕ → Question
   -- what a sender does with a minute that is being sent, a head and a lent buffer
@@ -72,16 +72,17 @@ pub data Answer : Type 0 where
   day : ℕ → Answer
   date : ℕ → ℕ → ℕ → Answer
   stamped : ℕ → Answer
-  -- a reading, alone or with the coasting mark or the head beside it
+  -- a reading, alone, or with the coasting mark of the string that is named or with the head beside it
   told : Reading → Answer
-  toldString : Reading → Bool → Answer
+  toldMeinberg : Reading → Bool → Answer
+  toldErlangen : Reading → Bool → Answer
   toldMinute : Reading → ℕ → Answer
   -- a code and a place
   refused : ℕ → ℕ → Answer
   -- how many bytes were written, or by which code and place none were, and what the buffer then holds
   wrote : ℕ → List ℕ → Answer
   wroteNone : ℕ → ℕ → List ℕ → Answer
-  -- a text, byte by byte
+  -- a text or a part of one, byte by byte
   text : List ℕ → Answer
 
 -- ---- the answers of the crates, one by one
@@ -94,12 +95,14 @@ ofStamp (At v) = stamped v
 ofStamp (Refused x) = refused (x .code) (x .place)
 
 abbrev pub ofString : strings.Answer → Answer
-ofString (string.Time r coasting) = toldString r coasting
+ofString (string.Meinberg r coasting) = toldMeinberg r coasting
+ofString (string.Erlangen r coasting) = toldErlangen r coasting
 ofString (string.No x) = refused (x .code) (x .place)
 
 -- the stamp of a string's answer; a refused string has its own refusal
 abbrev pub stampOfAnswer : strings.Answer → Answer
-stampOfAnswer (string.Time r coasting) = ofStamp (stampOf base r)
+stampOfAnswer (string.Meinberg r coasting) = ofStamp (stampOf base r)
+stampOfAnswer (string.Erlangen r coasting) = ofStamp (stampOf base r)
 stampOfAnswer (string.No x) = refused (x .code) (x .place)
 
 abbrev pub ofFrame : frames.Answer → Answer
@@ -123,9 +126,9 @@ afterWriting v n bytes out = ofWritten (writtenOf v n) (filled v bytes out)
 unfoldable pub answerTo : Question → Answer
 answerTo (weekday t) = day (weekdayOf t)
 answerTo (stamp r) = ofStamp (stampOf base r)
-answerTo (stampOfString s) = stampOfAnswer (readMeinberg base s)
-answerTo (meinberg s) = ofString (readMeinberg base s)
-answerTo (erlangen s) = ofString (readErlangen base s)
+answerTo (stampOfString s) = stampOfAnswer (readString base s)
+answerTo (clockString s) = ofString (readString base s)
+answerTo (positionPart s) = text (positionOf base s)
 answerTo (pulses s) = ofFrame (readFrame base s)
 answerTo (marks s) = ofMinute (readDcf77 base s)
 answerTo (toMeinberg r coasting out) = afterWriting (meinbergFault base r (length out)) textLength (meinbergBytes r coasting) out
@@ -133,7 +136,7 @@ answerTo (toErlangen r coasting position out) =
     afterWriting (erlangenFault base r position (length out)) size (erlangenBytes r coasting position) out
 answerTo (toPulses r out) = afterWriting (frameFault base r (length out)) frameLength (frameOf r) out
 answerTo (toMarks r head out) = afterWriting (minuteFault base r head (length out)) (lengthOf (dueLong r)) (minuteBytes r head) out
-answerTo (bridged kind s out) = ofWritten (bridgeAnswer base kind s (length out)) (bridgeFilled base kind s out)
+answerTo (bridged s out) = ofWritten (bridgeAnswer base s (length out)) (bridgeFilled base s out)
 answerTo (changeOn s y) = ofDate (changeDate s y)
 answerTo (telegram sender sent head out) =
     afterWriting (telegramFault base sender sent head (length out)) (lengthOf (dueLong (telegramReading sender sent)))

@@ -16,34 +16,35 @@ use Rattle.reading.specs.Faults.{number}
 use Rattle.reading.specs.Writing.{writtenOf, filled}
 use Rattle.strings.specs.declared.Answer.{Answer}
 use Rattle.strings.specs.declared.Answer.the-variants.{Time, No}
+use Rattle.clock_string.specs.Reader.{readString, whichever}
+use Rattle.clock_string.proofs.ReadLaws.{Tells, refused-is}
 use Rattle.irig.specs.Faults.{frameLength}
 use Rattle.irig.specs.Writing.{frameOf, writeFault}
 use Rattle.irig.proofs.WriteLaws.{writable, written-frame}
-use Rattle.bridge.specs.declared.Kind.{Kind}
-use Rattle.bridge.specs.Bridge.{pendingOf, readString, bridgeAnswer, bridgeFilled}
+use Rattle.bridge.specs.Bridge.{pendingOf, bridgeAnswer, bridgeFilled}
 use Rattle.bridge.proofs.BridgeLaws.{carried-checked, too-short-first, string-refusal-unchanged, accepted-written}
 use Rattle.bridge.proofs.bridge.Statement.{statement}
 use Rattle.bridge.proofs.bridge.Tie as tie
 
-module _ (base : ℕ) (kind : Kind) (s out : List ℕ) where
+module _ (base : ℕ) (s out : List ℕ) where
   -- an answer and a buffer are those of the definitions
   abbrev Right : Written → List ℕ → Type 0
-  Right w after = (w ≡ bridgeAnswer base kind s (length out)) × (after ≡ bridgeFilled base kind s out)
+  Right w after = (w ≡ bridgeAnswer base s (length out)) × (after ≡ bridgeFilled base s out)
 
   too-short : (n : Refusal) (w : Written) (after : List ℕ) → length out < frameLength → n ≡ number Length → w ≡ Refused n → after ≡ out → Right w after
-  too-short n w after h q e f = let l = too-short-first base kind s out h in (e ∙ ap Refused q ∙ sym (l .0), f ∙ sym (l .1))
+  too-short n w after h q e f = let l = too-short-first base s out h in (e ∙ ap Refused q ∙ sym (l .0), f ∙ sym (l .1))
 
-  module _ (enough : frameLength ≤ length out) (a : Answer) (is : a ≡ readString base kind s) where
+  module _ (enough : frameLength ≤ length out) (a : Answer) (is : a ≡ whichever (readString base s)) where
     refused : (x : Refusal) (w : Written) (after : List ℕ) → a ≡ No x → w ≡ Refused x → after ≡ out → Right w after
-    refused x w after e f g = let l = string-refusal-unchanged base kind s out enough x (sym is ∙ e) in (f ∙ sym (l .0), g ∙ sym (l .1))
+    refused x w after e f g = let l = string-refusal-unchanged base s out enough x (refused-is (readString base s) x (sym is ∙ e)) in (f ∙ sym (l .0), g ∙ sym (l .1))
 
     wrote : (r p : Reading) (coasting : Bool) (w : Written) (after : List ℕ) → a ≡ Time r coasting → p ≡ pendingOf r
         → w ≡ writtenOf (writeFault base p (length out)) frameLength → after ≡ filled (writeFault base p (length out)) (frameOf p) out
         → Right w after
     wrote r p coasting w after e q answer bytes =
-        let read : readString base kind s ≡ Time r coasting = sym is ∙ e in
-        let l = accepted-written base kind s out enough r coasting read in
-        let good = writable base (pendingOf r) (length out) enough (carried-checked base kind s r coasting read) in
+        let read : Tells base s r coasting = sym is ∙ e in
+        let l = accepted-written base s out enough r coasting read in
+        let good = writable base (pendingOf r) (length out) enough (carried-checked base s r coasting read) in
         let f = written-frame base (pendingOf r) out good in
         (answer ∙ rw q (f .0 ∙ sym (l .0)), bytes ∙ rw q (f .1 ∙ sym (l .1)))
 
@@ -61,11 +62,14 @@ returns c =
     let w = c .before .before in
     let n = w .before .before in
     let a = n .before .before .before .before .args in
-    too-short _ (a .kind) (a .s .now) (a .out .now) (n .refusal-of .result) (w .refuse .result) (w .refuse .last .1 .0) (omega arith)
+    too-short _ (a .s .now) (a .out .now) (n .refusal-of .result) (w .refuse .result) (w .refuse .last .1 .0) (omega arith)
     (n .refusal-of .ensures) (w .refuse .ensures .0) (w .refuse .ensures .1)
 
-read-string-requires : tie.Need-read-string-requires
-read-string-requires c κs = search needs
+read-requires : tie.Need-read-requires
+read-requires c κs = search needs
+
+whichever-requires : tie.Need-whichever-requires
+whichever-requires c κs = search needs
 
 enum-known-answer : tie.Need-enum-known-answer
 enum-known-answer c = search needs
@@ -91,8 +95,8 @@ returns-2 c =
     let p = w .before .before in
     let k = p .before .before in
     let t = k .before .before in
-    let a = t .before .before .before .before .args in
-    wrote _ (a .kind) (a .s .now) (a .out .now) (t .before .if1 .left) (t .read-string .result) (t .read-string .ensures)
+    let a = t .before .before .before .before .before .args in
+    wrote _ (a .s .now) (a .out .now) (t .before .before .if1 .left) (t .whichever .result) (t .whichever .ensures ∙ ap whichever (t .before .read .ensures))
     (k .answer .given .0 .0) (p .pending-of .result) (k .answer .given .0 .1 .0) (w .write .result) (w .write .last .1 .0) (k .answer .given .1) (p .pending-of .ensures)
     (w .write .ensures .0) (w .write .ensures .1)
 
@@ -104,8 +108,8 @@ returns-3 c =
     let w = c .before .before in
     let k = w .before .before .before in
     let t = k .before .before in
-    let a = t .before .before .before .before .args in
-    refused _ (a .kind) (a .s .now) (a .out .now) (t .before .if1 .left) (t .read-string .result) (t .read-string .ensures)
+    let a = t .before .before .before .before .before .args in
+    refused _ (a .s .now) (a .out .now) (t .before .before .if1 .left) (t .whichever .result) (t .whichever .ensures ∙ ap whichever (t .before .read .ensures))
     (k .answer2 .given .0 .0) (w .refuse2 .result) (w .refuse2 .last .1 .0) (k .answer2 .given .1) (w .refuse2 .ensures .0) (w .refuse2 .ensures .1)
 
 pub bridge-spec : {M : Type 1} → statement M
@@ -116,7 +120,8 @@ bridge-spec =
     refuse-requires
     same-length
     returns
-    read-string-requires
+    read-requires
+    whichever-requires
     enum-known-answer
     pending-of-requires
     write-requires

@@ -1,0 +1,60 @@
+-- `erlangen::read::for_clock_string` meets its contract: length, bytes and meaning in their order. Assumes nothing.
+use native.Mathlib.Omega.{arith}
+use borrow.Author.Needs.{needs}
+use denote.Ref.{now}
+use Rattle.reading.specs.Years.{base}
+use Rattle.erlangen.proofs.FaultLaws.{wrong-length, wrong-byte, said-last, refused, answered}
+use Rattle.erlangen.proofs.read.for_clock_string.Statement.{statement}
+use Rattle.erlangen.proofs.read.for_clock_string.Tie as tie
+
+refusal-of-requires : tie.Need-refusal-of-requires
+refusal-of-requires c κs = search needs
+
+returns : tie.Need-returns
+returns c = rw (c .refusal-of .ensures) (refused _ _ _ (wrong-length _ _ (c .before .if1 .taken)))
+
+good-places-requires : tie.Need-good-places-requires
+good-places-requires c κs = search needs
+
+refusal-of-requires-2 : tie.Need-refusal-of-requires-2
+refusal-of-requires-2 c κs = search needs
+
+returns-2 : tie.Need-returns-2
+returns-2 c =
+    rw (c .refusal-of2 .ensures) (refused _ _ _ (wrong-byte _ _ _ (omega arith) (c .before .before .good-places .ensures) (omega arith)))
+
+reading-of-requires : tie.Need-reading-of-requires
+reading-of-requires c κs = search needs
+
+said-fault-requires : tie.Need-said-fault-requires
+said-fault-requires c κs = search needs
+
+coasting-said-requires : tie.Need-coasting-said-requires
+coasting-said-requires c κs = search needs
+
+told-requires : tie.Need-told-requires
+told-requires c κs = search needs
+
+returns-3 : tie.Need-returns-3
+returns-3 c =
+    let m = c .before .before .before in
+    let s = now (m .before .before .before .before .before .args .s) in
+    let v = c .before .before .said-fault in
+    let f = rw (m .reading-of .ensures) at (v .ensures) in
+    let verdict = said-last base s (v .result) _ (omega arith) (m .before .before .good-places .ensures) (omega arith) f in
+    rw (c .told .ensures, c .before .coasting-said .ensures, m .reading-of .ensures) (answered base s (v .result) verdict)
+
+pub for-clock-string-spec : {M : Type 1} → statement M
+for-clock-string-spec =
+    tie.close
+    (tie.spec
+    refusal-of-requires
+    returns
+    good-places-requires
+    refusal-of-requires-2
+    returns-2
+    reading-of-requires
+    said-fault-requires
+    coasting-said-requires
+    told-requires
+    returns-3)
