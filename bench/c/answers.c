@@ -72,7 +72,10 @@ static void put_string(const uint8_t *s, size_t length)
         put_field(' ', coasting);
     }
     put(" part ");
-    put_hex(s + POSITION_START, !a.code && kind == ERLANGEN ? POSITION_LENGTH : 0);
+    if (!a.code && kind == ERLANGEN)
+        put_hex(s + POSITION_START, POSITION_LENGTH);
+    else
+        put("-");
 }
 
 static void put_pulses(uint8_t op, const uint8_t *s, size_t length)

@@ -46,7 +46,7 @@ abbrev pub bytesFor : Answer → List ℕ → List ℕ
 bytesFor (Time r coasting) buffer = frameOf (pendingOf r) ++ drop frameLength buffer
 bytesFor (No refusal) buffer = buffer
 
--- "The bridge checks output length first."
+-- "The bridge checks output length first." By L1 it "loses its kind argument": the string is read by its length.
 unfoldable pub bridgeAnswer : ℕ → List ℕ → ℕ → Written
 bridgeAnswer base s room = cond (ltb room frameLength) (Refused (number Length)) (answerFor (whichever (readString base s)))
 

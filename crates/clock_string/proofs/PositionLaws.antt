@@ -14,7 +14,6 @@ use Rattle.meinberg.specs.Meaning.{readMeinberg}
 use Rattle.erlangen.specs.Layout.{positionAt, positionSize}
 use Rattle.erlangen.specs.Meaning.{readErlangen, positionBytes}
 use Rattle.erlangen.proofs.Promises.{position-good as bytes-good}
-use Rattle.clock_string.specs.declared.Answer.{Answer}
 use Rattle.clock_string.specs.declared.Answer.the-variants.{Meinberg, Erlangen, No}
 use Rattle.clock_string.specs.Reader.{asMeinberg, readString}
 use Rattle.clock_string.specs.Position.{positionFor, startFor, positionOf}
@@ -54,7 +53,7 @@ module _ (base : ℕ) (s : List ℕ) where
       go (Time r coasting) = (refl, refl)
       go (Refused x) = (refl, refl)
 
-  -- nor has any string one that Uni Erlangen's reader refuses
+  -- nor has any string one that is refused as Uni Erlangen's
   pub no-part-of-refused : (x : Refusal) → readErlangen base s ≡ Refused x → NoPart base s
   unfolding positionOf
   no-part-of-refused x e = go (way base s)
@@ -64,7 +63,7 @@ module _ (base : ℕ) (s : List ℕ) where
       go (erlangen h w) = rw (w, e) (refl, refl)
       go (neither w) = rw w (refl, refl)
 
-  -- what it accepts has its bytes 41..66
+  -- one that is accepted as such has its bytes 41..66
   pub part-of-accepted : (r : Reading) (coasting : Bool) → readErlangen base s ≡ Time r coasting
       → (positionBytes s ≡ positionOf base s) × (startFor (readString base s) ≡ positionAt)
   unfolding positionOf

@@ -7,7 +7,7 @@ use native.Mathlib.Decide.{ℕ-discrete}
 use native.Mathlib.Omega.{arith}
 use lib.ListN.{length}
 use borrow.Author.Tests.{eq-eqb, ne-eqb}
-use Rattle.wire.proofs.LayoutLaws.{allowedAt, first-bad-is}
+use Rattle.wire.proofs.LayoutLaws.{allowedAt}
 use Rattle.reading.specs.declared.Reading.{Reading}
 use Rattle.reading.specs.declared.Refusal.{Refusal}
 use Rattle.reading.specs.declared.Fault.the-variants.{Length, Byte}
@@ -19,12 +19,11 @@ use Rattle.strings.specs.declared.Answer.{Answer as Said}
 use Rattle.strings.specs.declared.Answer.the-variants.{Time, No as Refused}
 use Rattle.meinberg.specs.Layout.{textLength, layout as meinbergLayout}
 use Rattle.meinberg.specs.Meaning.{readMeinberg}
-use Rattle.meinberg.proofs.ReadLaws.{lowest-bad-byte}
+use Rattle.meinberg.proofs.ReadLaws.{lowest-bad-byte as lowest-bad-of-meinberg}
 use Rattle.meinberg.proofs.RoundTrip.{accepted-length as meinberg-length, accepted-checked as meinberg-checked}
 use Rattle.erlangen.specs.Layout.{size, layout as erlangenLayout}
 use Rattle.erlangen.specs.Meaning.{readErlangen}
-use Rattle.erlangen.proofs.Promises.{accepted-length as erlangen-length, accepted-checked as erlangen-checked, layout-length, lowest-place}
-use Rattle.erlangen.proofs.FaultLaws.{refused}
+use Rattle.erlangen.proofs.Promises.{accepted-length as erlangen-length, accepted-checked as erlangen-checked, lowest-bad-byte as lowest-bad-of-erlangen}
 use Rattle.clock_string.specs.declared.Answer.{Answer}
 use Rattle.clock_string.specs.declared.Answer.the-variants.{Meinberg, Erlangen, No}
 use Rattle.clock_string.specs.Reader.{asMeinberg, asErlangen, readString, whichever}
@@ -160,10 +159,8 @@ accepted-checked base s r coasting e = go (named base s r coasting e)
 module _ (base : ℕ) (s : List ℕ) (k : ℕ) where
   pub lowest-bad-of-32 : length s ≡ textLength → k < textLength → allowedAt meinbergLayout s k ≡ false
       → ((i : ℕ) → i < k → allowedAt meinbergLayout s i ≡ true) → readString base s ≡ No (number (Byte k))
-  lowest-bad-of-32 h l bad before = at-32 base s h ∙ ap asMeinberg (lowest-bad-byte base s h k (omega arith) bad before)
+  lowest-bad-of-32 h l bad before = at-32 base s h ∙ ap asMeinberg (lowest-bad-of-meinberg base s h k (omega arith) bad before)
 
   pub lowest-bad-of-68 : length s ≡ size → k < size → allowedAt erlangenLayout s k ≡ false
       → ((i : ℕ) → i < k → allowedAt erlangenLayout s i ≡ true) → readString base s ≡ No (number (Byte k))
-  lowest-bad-of-68 h l bad before =
-      let n = first-bad-is erlangenLayout s k (omega (arith, layout-length)) (omega arith) bad before in
-      at-68 base s h ∙ ap asErlangen (sym (refused base s (Byte k) (sym (lowest-place base s k h n l .0))))
+  lowest-bad-of-68 h l bad before = at-68 base s h ∙ ap asErlangen (lowest-bad-of-erlangen base s h k l bad before)

@@ -16,6 +16,7 @@ use Rattle.reading.specs.declared.Written.the-variants.{Length as Wrote}
 use Rattle.reading.specs.Faults.{number}
 use Rattle.reading.specs.Stamps.{stampOf}
 use Rattle.reading.specs.Writing.{writtenOf, filled}
+use Rattle.reading.proofs.WrittenLaws.{length-is}
 use Rattle.meinberg.specs.Layout.{textLength}
 use Rattle.meinberg.specs.Writing.{bytesOf as meinbergBytes, writeFault as meinbergFault}
 use Rattle.meinberg.proofs.RoundTrip as meinberg
@@ -38,7 +39,7 @@ module _ (base : ℕ) (r : Reading) (coasting : Bool) (buffer : List ℕ) where
   pub meinberg-written-reads : (n : ℕ) → writtenOf (meinbergFault base r (length buffer)) textLength ≡ Wrote n
       → (n ≡ textLength) × (readString base (take n meinbergAfter) ≡ Meinberg r coasting) × (positionOf base (take n meinbergAfter) ≡ [])
   meinberg-written-reads n e =
-      let a = erlangen.length-is (meinbergFault base r (length buffer)) textLength n e in
+      let a = length-is (meinbergFault base r (length buffer)) textLength n e in
       let t = take n meinbergAfter in
       let w = rw (sym (a .1)) at (meinberg.written-reads base r coasting buffer (a .0)) in
       let told = meinberg-told base t r coasting w in

@@ -14,7 +14,7 @@ use Rattle.erlangen.proofs.Worked.{usual, ahead, none, string, hourAhead, readi
 use Rattle.clock_string.specs.declared.Answer.{Answer}
 use Rattle.clock_string.specs.declared.Answer.the-variants.{Meinberg, Erlangen, No}
 use Rattle.clock_string.specs.Reader.{readString, whichever}
-use Rattle.clock_string.proofs.ReadLaws.{meinberg-told, erlangen-told}
+use Rattle.clock_string.proofs.ReadLaws.{meinberg-told, erlangen-told, SameString}
 
 -- a string of each length that is accepted
 abbrev afternoon : List ℕ
@@ -39,13 +39,17 @@ module _ (answer : List ℕ → Answer) (meets : (s : List ℕ) → answer s ≡
   refuses-all-of-68 refusal e = let z : _≡_ {A = ℕ} 0 1 = cc (afternoon-told, meets afternoon) in omega arith
 
   -- "one fixed time for all", whichever string it is told of
-  pub one-fixed-time : (r : Reading) (coasting : Bool)
+  pub one-fixed-time : (r : Reading)
       → ((s : List ℕ) (q : Reading) (d : Bool) → whichever (answer s) ≡ Time q d → q ≡ r) → ⊥
-  one-fixed-time r coasting all =
+  one-fixed-time r all =
       let a = all leapSecond atLeapSecond false (ap whichever (meets leapSecond ∙ leap-second-told)) in
       let b = all afternoon (reading hourAhead) false (ap whichever (meets afternoon ∙ afternoon-told)) in
       another-year (a ∙ sym b)
 
-  -- a reader that names one string for all
-  pub names-one-string : ((s : List ℕ) (q : Reading) (d : Bool) → answer s ≡ Erlangen q d → ⊥) → ⊥
-  names-one-string never = never afternoon (reading hourAhead) false (meets afternoon ∙ afternoon-told)
+  -- a reader that names one string for all that it accepts
+  pub names-one-string : ((s t : List ℕ) (q r : Reading) (c d : Bool) → whichever (answer s) ≡ Time q c → whichever (answer t) ≡ Time r d
+      → SameString (answer s) (answer t)) → ⊥
+  names-one-string all =
+      let a = meets leapSecond ∙ leap-second-told in
+      let b = meets afternoon ∙ afternoon-told in
+      rw (a, b) at (all leapSecond afternoon atLeapSecond (reading hourAhead) false false (ap whichever a) (ap whichever b))

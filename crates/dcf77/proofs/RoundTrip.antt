@@ -12,7 +12,7 @@ use Rattle.reading.specs.declared.Reading.{Reading}
 use Rattle.reading.specs.declared.Refusal.{Refusal}
 use Rattle.reading.specs.declared.Fault.the-variants.{OutsideYears}
 use Rattle.reading.specs.declared.Verdict.{Verdict}
-use Rattle.reading.specs.declared.Verdict.the-variants.{Good, Bad}
+use Rattle.reading.specs.declared.Verdict.the-variants.{Good}
 use Rattle.reading.specs.declared.Written.the-variants.{Length, No}
 use Rattle.reading.specs.declared.Stamp.the-variants.{At, Refused}
 use Rattle.reading.specs.Faults.{number}
@@ -20,7 +20,7 @@ use Rattle.reading.specs.Universal.{utcOf}
 use Rattle.reading.specs.Checks.{checkedOf}
 use Rattle.reading.specs.Stamps.{hasStamp, stampNumber, stampOf}
 use Rattle.reading.specs.Writing.{writtenOf, filled}
-use Rattle.reading.proofs.CheckLaws.{clash}
+use Rattle.reading.proofs.WrittenLaws.{length-is, untouched}
 use Rattle.reading.proofs.StampLaws.{is-stamp, refused-by-12}
 use Rattle.pulses.specs.Row.{row}
 use Rattle.dcf77_table.specs.Table.{minuteMarks}
@@ -77,14 +77,6 @@ exactly base s r h =
 
 -- ---- over the contracts of the writer
 
-pub written-good : (v : Verdict) (m n : ℕ) → writtenOf v m ≡ Length n → (v ≡ Good) × (m ≡ n)
-written-good Good m n e = (refl, cc)
-written-good (Bad x) m n e = let z : _≡_ {A = ℕ} 0 1 = cc in clash z
-
-pub untouched : (v : Verdict) (m : ℕ) (bytes out : List ℕ) (x : Refusal) → writtenOf v m ≡ No x → filled v bytes out ≡ out
-untouched (Bad fault) m bytes out x e = refl
-untouched Good m bytes out x e = let z : _≡_ {A = ℕ} 0 1 = cc in clash z
-
 module _ (base : ℕ) (r : Reading) (h : ℕ) (out : List ℕ) where
   abbrev verdict : Verdict
   verdict = writeFault base r h (length out)
@@ -93,9 +85,9 @@ module _ (base : ℕ) (r : Reading) (h : ℕ) (out : List ℕ) where
   pub written-reads : (n : ℕ) → writtenOf verdict (lengthOf (dueLong r)) ≡ Length n
       → readDcf77 base (take n (filled verdict (bytesOf r h) out)) ≡ Time r h
   written-reads n e =
-      let w = written-good verdict (lengthOf (dueLong r)) n e in
+      let w = length-is verdict (lengthOf (dueLong r)) n e in
       let front : take n (bytesOf r h ++ drop (length (bytesOf r h)) out) ≡ bytesOf r h =
-      take-at (bytesOf r h) (drop (length (bytesOf r h)) out) n (length-bytes r h ∙ w .1) in
+      take-at (bytesOf r h) (drop (length (bytesOf r h)) out) n (length-bytes r h ∙ sym (w .1)) in
       rw (w .0, front) (bytes-read base r h (accepted base r h (length out) (w .0) .0))
 
   -- what is read is written again, byte for byte, into whatever buffer has the room, and the rest of it stays

@@ -1,4 +1,4 @@
--- What reader and writer of Uni Erlangen strings promise of each other, for any base year.
+-- What reading and writing Uni Erlangen strings promise of each other, for any base year.
 use mathlib.Core.Bool.{Bool, true, false}
 use mathlib.Core.List.{List, _++_}
 use mathlib.Core.Logic.{_↔_}
@@ -9,7 +9,7 @@ use lib.ListN.{length, take, drop}
 use lib.Seq.{take-at, drop-at}
 use borrow.Author.Tests.{lt-ltb, le-ltb, eq-eqb}
 use Rattle.wire.specs.Layout.{goodPlaces, printables}
-use Rattle.wire.proofs.LayoutLaws.{allowedAt, first-bad, printableAt, first-unprintable-is}
+use Rattle.wire.proofs.LayoutLaws.{allowedAt, first-bad, first-bad-is, printableAt, first-unprintable-is}
 use Rattle.reading.specs.declared.Reading.{Reading}
 use Rattle.reading.specs.declared.Refusal.{Refusal}
 use Rattle.reading.specs.declared.Fault.the-variants.{Byte, OutsideYears}
@@ -24,17 +24,18 @@ use Rattle.reading.specs.Checks.{checkedOf}
 use Rattle.reading.specs.Stamps.{hasStamp, stampNumber, stampOf}
 use Rattle.reading.proofs.CheckLaws.{clash}
 use Rattle.reading.proofs.StampLaws.{is-stamp, refused-by-12}
-use Rattle.strings.specs.declared.Answer.the-variants.{Time}
+use Rattle.reading.proofs.WrittenLaws.{length-is, untouched}
+use Rattle.strings.specs.declared.Answer.the-variants.{Time, No as Refuses}
 use Rattle.strings.specs.Checks.{answerOf}
 use Rattle.erlangen.specs.Layout.{size, positionSize, layout}
 use Rattle.erlangen.specs.Meaning.{readingOf, coastingSaid, faultIn, readErlangen, positionBytes}
 use Rattle.erlangen.specs.Writing.{bytesOf, lengthBad, writeFault}
-use Rattle.erlangen.proofs.FaultLaws.{Accepted, accepted-is, is-accepted, carried-is, is-carried}
+use Rattle.erlangen.proofs.FaultLaws.{refused, Accepted, accepted-is, is-accepted, carried-is, is-carried}
 use Rattle.erlangen.proofs.BytesLaws.{bytes-length}
 use Rattle.erlangen.proofs.ReadLaws.{bytes-back, position-length, position-printable, reading-checked, reading-carried}
 use Rattle.erlangen.proofs.WriteLaws.{bytes-accepted, says-back}
 
-pub layout-length : length layout ≡ size
+layout-length : length layout ≡ size
 unfolding layout
 layout-length = refl
 
@@ -43,10 +44,6 @@ layout-length = refl
 told-is : (v : Verdict) (a r : Reading) (b c : Bool) → answerOf v a b ≡ Time r c → (v ≡ Good) × (a ≡ r) × (b ≡ c)
 told-is Good a r b c e = (refl, cc, cc)
 told-is (Bad x) a r b c e = let z : _≡_ {A = ℕ} 0 1 = cc in clash z
-
-pub length-is : (v : Verdict) (m n : ℕ) → writtenOf v m ≡ Length n → (v ≡ Good) × (n ≡ m)
-length-is Good m n e = (refl, cc)
-length-is (Bad x) m n e = let z : _≡_ {A = ℕ} 0 1 = cc in clash z
 
 module _ (base : ℕ) (s : List ℕ) where
   pub accepted-by : (r : Reading) (coasting : Bool) → readErlangen base s ≡ Time r coasting → (faultIn base s ≡ Good) × (readingOf base s ≡ r) × (coastingSaid s ≡ coasting)
@@ -100,11 +97,7 @@ module _ (base : ℕ) (r : Reading) (coasting : Bool) (position : List ℕ) wher
 
     -- "A refusal leaves all lent memory untouched"
     pub refused-untouched : (x : Refusal) → writtenOf verdict size ≡ No x → after ≡ buffer
-    refused-untouched x e = go verdict e
-      where
-        go : (v : Verdict) → writtenOf v size ≡ No x → filled v (bytesOf r coasting position) buffer ≡ buffer
-        go Good e = let z : _≡_ {A = ℕ} 0 1 = cc in clash z
-        go (Bad y) e = refl
+    refused-untouched = untouched verdict size (bytesOf r coasting position) buffer
 
 -- ---- read, write
 
@@ -161,7 +154,7 @@ one-string base s t r coasting a b e =
 
 -- ---- accepted exactly if written
 
--- the reader accepts just the strings that the writer writes for some reading, coasting mark and position part
+-- accepted are just the strings that the writer writes for some reading, coasting mark and position part
 pub exactly : (base : ℕ) (s : List ℕ)
     → ((r : Reading) × (coasting : Bool) × (readErlangen base s ≡ Time r coasting))
     ↔ ((r : Reading) × (coasting : Bool) × (position : List ℕ) × (writeFault base r position size ≡ Good) × (bytesOf r coasting position ≡ s))
@@ -183,6 +176,12 @@ unfolding faultIn
 lowest-place base s k l e h =
     let b = first-bad layout s k e (omega (arith, layout-length)) (omega arith) in
     (rw (eq-eqb (length s) size l, e, lt-ltb k size h), b .0, b .1)
+
+pub lowest-bad-byte : (base : ℕ) (s : List ℕ) → length s ≡ size → (k : ℕ) → k < size → allowedAt layout s k ≡ false
+    → ((i : ℕ) → i < k → allowedAt layout s i ≡ true) → readErlangen base s ≡ Refuses (number (Byte k))
+lowest-bad-byte base s l k h e f =
+    let n = first-bad-is layout s k (omega (arith, layout-length)) (omega arith) e f in
+    sym (refused base s (Byte k) (sym (lowest-place base s k l n h .0)))
 
 -- "printable (2, place within it)": the writer tells the lowest place of the position part whose byte is not
 pub lowest-unprintable : (base : ℕ) (r : Reading) (position : List ℕ) (room k : ℕ) → size ≤ room → length position ≡ positionSize → k < positionSize

@@ -1,4 +1,4 @@
--- Stand-ins for the reader and the writer that "have to break" the contract: no function that meets it is one of them.
+-- Stand-ins for what reads and what writes that "have to break" the contract: no function that meets it is one of them.
 use mathlib.Core.Bool.{Bool, false}
 use mathlib.Core.List.{List}
 use mathlib.Core.Path.{_≡_, refl, sym, ap, _∙_}

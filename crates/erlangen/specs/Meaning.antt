@@ -1,4 +1,4 @@
--- What a Uni Erlangen string says, and what its reader answers.
+-- What a Uni Erlangen string says, field by field, and the answer to it.
 use mathlib.Core.Bool.{Bool, cond, not, Bool·beq}
 use mathlib.Core.List.{List}
 use Prim.Native.Nat.{ℕ}

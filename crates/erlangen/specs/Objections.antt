@@ -45,7 +45,7 @@ writeObjections base r position room =
     ∷ objection (ltb (printables position) 26) 2 (printables position)
     ∷ readingObjections base r ++ (objection (notCarried (r .quality)) 11 0 ∷ [])
 
--- the codes that reader and writer can answer with
+-- the codes that a string can be refused with, and those of the writer
 abbrev pub readCodes : List ℕ
 readCodes = 1 ∷ 2 ∷ 15 ∷ 16 ∷ 6 ∷ 8 ∷ 9 ∷ []
 

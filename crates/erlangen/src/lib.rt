@@ -1,4 +1,4 @@
-// Uni Erlangen strings, 68 bytes: their lengths and their writer (`writing`); `clock_string` reads them. Every public function
+// Uni Erlangen strings, 68 bytes: their length and their writer (`writing`); `clock_string` reads them. Every public function
 // takes any input and answers as the definitions of specs/ say.
 mod layout;
 mod offset;

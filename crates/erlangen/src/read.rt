@@ -1,5 +1,5 @@
-// For `clock_string::read` alone, which is the reader of clock strings: what a Uni Erlangen string says, field by field, and
-// its first fault.
+// For the crate `clock_string` alone, which reads clock strings: what a Uni Erlangen string says, field by field, and its
+// first fault.
 use super::Erlangen;
 use super::layout::good_places;
 use super::offset::offset_bad;

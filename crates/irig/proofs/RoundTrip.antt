@@ -10,8 +10,7 @@ use lib.Dec.{ltb}
 use lib.IntN.{ℤ, pos}
 use lib.ListN.{length, getD, take, drop}
 use Rattle.reading.specs.declared.Reading.{Reading}
-use Rattle.reading.specs.declared.Verdict.{Verdict}
-use Rattle.reading.specs.declared.Verdict.the-variants.{Good, Bad}
+use Rattle.reading.specs.declared.Verdict.the-variants.{Good}
 use Rattle.reading.specs.declared.Fault.the-variants.{OutsideYears}
 use Rattle.reading.specs.declared.Stamp.the-variants.{At, Refused}
 use Rattle.reading.specs.declared.Written.the-variants.{Length}
@@ -21,7 +20,8 @@ use Rattle.reading.specs.Offset.{unit, east}
 use Rattle.reading.specs.Universal.{utcOf}
 use Rattle.reading.specs.Checks.{checkedOf}
 use Rattle.reading.specs.Stamps.{hasStamp, stampNumber, stampOf}
-use Rattle.reading.proofs.CheckLaws.{clash, checked-is, is-checked}
+use Rattle.reading.proofs.CheckLaws.{checked-is, is-checked}
+use Rattle.reading.proofs.WrittenLaws.{length-is}
 use Rattle.reading.proofs.StampLaws.{is-stamp, refused-by-12}
 use Rattle.pulses.specs.Row.{groupOf, weightOf, bit}
 use Rattle.pulses.proofs.EntryLaws.{pulse-data}
@@ -35,16 +35,11 @@ use Rattle.irig.proofs.OffsetLaws.{minus-ahead}
 use Rattle.irig.proofs.WriteLaws.{room-enough, writable, written-frame, front}
 use Rattle.irig.proofs.FrameLaws.{frame-read, accepted, reading-is-checked, frame-again}
 
--- an answer of a length is that of a frame without a fault
-wrote-all : (v : Verdict) (n : ℕ) → writtenOf v frameLength ≡ Length n → (v ≡ Good) × (n ≡ frameLength)
-wrote-all Good n e = (refl, cc)
-wrote-all (Bad x) n e = let z : _≡_ {A = ℕ} 0 1 = cc in clash z
-
 -- WRITE, READ: what is written, into any buffer, is read as what was written
 pub written-reads : (base : ℕ) (r : Reading) (buffer : List ℕ) (n : ℕ) → writtenOf (writeFault base r (length buffer)) frameLength ≡ Length n
     → readFrame base (take n (filled (writeFault base r (length buffer)) (frameOf r) buffer)) ≡ Time r
 written-reads base r buffer n e =
-    let w = wrote-all (writeFault base r (length buffer)) n e in
+    let w = length-is (writeFault base r (length buffer)) frameLength n e in
     let c = room-enough base r (length buffer) (w .0) in
     rw (w .1, front base r buffer (w .0)) (frame-read base r (checked-is base r (c .1)))
 

@@ -1,4 +1,4 @@
--- What a Meinberg string says, field by field, and what its reader answers.
+-- What a Meinberg string says, field by field, and the answer to it.
 use mathlib.Core.Bool.{Bool, false, cond, not}
 use mathlib.Core.List.{List}
 use Prim.Native.Nat.{ℕ}

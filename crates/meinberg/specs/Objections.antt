@@ -42,7 +42,7 @@ readObjections base s = saidObjections s (meaning base s) (digit (getD s 14 0))
 unfoldable pub writeObjections : ℕ → Reading → ℕ → List Objection
 writeObjections base r room = objection (ltb room 32) 1 0 ∷ readingObjections base r ++ (objection (notCarried r) 11 0 ∷ [])
 
--- the codes that reader and writer can answer with
+-- the codes that a string can be refused with, and those of the writer
 abbrev pub readCodes : List ℕ
 readCodes = 1 ∷ 2 ∷ 15 ∷ 16 ∷ 6 ∷ 9 ∷ []
 

@@ -1,4 +1,4 @@
-// The Meinberg string: 32 bytes, STX `D:dd.mm.yy;T:w;U:hh.mm.ss;uvxy` ETX, its lengths and its writer; `clock_string` reads
+// The Meinberg string: 32 bytes, STX `D:dd.mm.yy;T:w;U:hh.mm.ss;uvxy` ETX, its length and its writer; `clock_string` reads
 // it. Every public function takes any value and answers as the definitions of specs/ say.
 use reading::Reading;
 use reading::Written;

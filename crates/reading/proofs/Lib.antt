@@ -11,3 +11,4 @@ pub mod StampOrder
 pub mod OneDue
 pub mod OwedLaws
 pub mod Unique
+pub mod WrittenLaws

@@ -18,7 +18,7 @@ ghost use mathlib.Core.Path.{_≡_};
 ghost use Rattle.reading.specs.Checks.{monthBad};
 ghost use Rattle.strings.specs.Checks.{weekdayBad, timeFault, dateFault, restFault, faultOf, answerOf};
 
-// What a string's reader answers: the time with its coasting mark, or why there is none.
+// What a string says in one of the formats: the time with its coasting mark, or why there is none.
 pub enum Answer {
     Time(Reading, bool),
     No(Refusal),
@@ -109,7 +109,7 @@ pub fn fault_of(r: Reading, said: u8, offset: bool, mark: bool, p: Places) -> Ve
     )
 }
 
-// The answer of a reader that found this verdict.
+// The answer to a string on which this is the verdict.
 pub fn told(verdict: Verdict, r: Reading, coasting: bool) -> Answer
     ensures { λ a. ⌜ a ≡ answerOf verdict r coasting ⌝ }
 {

@@ -2,7 +2,7 @@
 -- contract of `Sender::write` cites.
 use mathlib.Core.Bool.{Bool, true, not, _&&_}
 use mathlib.Core.List.{List}
-use mathlib.Core.Path.{_≡_, refl, sym, ap, _∙_}
+use mathlib.Core.Path.{_≡_, refl, ap, _∙_}
 use Prim.Native.Nat.{ℕ, _≤_, _<_}
 use lib.Dec.{leb, ltb}
 use lib.ListN.{length, take}
@@ -22,7 +22,8 @@ use Rattle.dcf77.specs.Forms.{shortLength, lengthOf, dueLong}
 use Rattle.dcf77.specs.Reader.{readDcf77}
 use Rattle.dcf77.specs.Writer.{bytesOf, needed, roomFault, writeFault}
 use Rattle.dcf77.proofs.LengthLaws.{room-short, room-own, room-all}
-use Rattle.dcf77.proofs.RoundTrip.{written-good, untouched, written-reads}
+use Rattle.reading.proofs.WrittenLaws.{length-is, untouched}
+use Rattle.dcf77.proofs.RoundTrip.{written-reads}
 use Rattle.summer.specs.Changes.{changeDate, changeMinute, isSummer}
 use Rattle.summer.proofs.ChangeLaws.{counted, summer-between}
 use Rattle.telegram.specs.declared.Sent.{Sent}
@@ -82,7 +83,7 @@ module _ (base : ℕ) (sender : Sender) (sent : Sent) (head : ℕ) (out : List �
 
   module _ (b : Base base) (n : ℕ) (wrote : writtenOf verdict (lengthOf (dueLong (telegramReading sender sent))) ≡ Length n) where
     abbrev good : sendFault base sender sent head ≡ Good
-    good = not-refused base sender sent head (length out) (written-good verdict (lengthOf (dueLong (telegramReading sender sent))) n wrote .0)
+    good = not-refused base sender sent head (length out) (length-is verdict (lengthOf (dueLong (telegramReading sender sent))) n wrote .0)
 
     abbrev p : Fit base sender sent head
     p = fit base sender sent head good
@@ -109,7 +110,7 @@ module _ (base : ℕ) (sender : Sender) (sent : Sent) (head : ℕ) (out : List �
     -- and which is long exactly where the minute that is being sent is 23:59 of the leap second's day
     pub telegram-long : n ≡ lengthOf (closedMinute (sender .leap) (utcSent sent))
     telegram-long =
-        sym (written-good verdict (lengthOf (dueLong (telegramReading sender sent))) n wrote .1)
+        length-is verdict (lengthOf (dueLong (telegramReading sender sent))) n wrote .1
         ∙ ap lengthOf (long-exactly base b sender sent head p)
 
   -- a refusal leaves the buffer as it was
