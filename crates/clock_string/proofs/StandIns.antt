@@ -16,7 +16,7 @@ use Rattle.clock_string.specs.declared.Answer.the-variants.{Meinberg, Er
 use Rattle.clock_string.specs.Reader.{readString, whichever}
 use Rattle.clock_string.proofs.ReadLaws.{meinberg-told, erlangen-told, SameString}
 
--- a string of each length that is accepted
+-- `29.02.24; 4; 12:34:56; +01:00`, which is accepted as 68 bytes, as `leapSecond` is as 32
 abbrev afternoon : List ℕ
 afternoon = string usual (ahead 0 1 0 0) none
 

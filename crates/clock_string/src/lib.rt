@@ -50,7 +50,7 @@ pub fn read(s: &[u8]) -> Answer
     Answer::No(refusal_of(Fault::Length))
 }
 
-// The position bytes as a part of the caller's own string; the empty part of a Meinberg string, and where it is refused.
+// The position bytes as a part of the caller's own string; empty for a Meinberg string, and for one that is refused.
 pub fn position_part(s: &[u8]) -> &[u8]
     ensures { λ r. ⌜ now r ≡ positionOf base (now (s .entry)) ⌝ }
     ensures { λ r. ⌜ r .ptr ≡ (s .entry .ptr .0, startFor (readString base (now (s .entry))) + s .entry .ptr .1) ⌝ }
