@@ -1,22 +1,23 @@
 """Before anything is counted: the proved functions, the C baseline and the second program have to give the same answers, on
 every record that is counted, on damaged ones, around every month end, on inputs with one fault and with several, on strings of
-every length, and on telegrams around every change."""
+every length, on what becomes of the coasting mark, and on telegrams around every change."""
 import subprocess
 import sys
 
 import kit
 import records
 import rows
+import case_coasting
 import case_door
 import case_months
 import case_places
 import case_telegrams
 from book import listing_text
-from case_parts import bridge_case, case
+from case_parts import DROPPED, bridge_case, bridge_with_case, case
 
 STEP = 7
 PULSES = (0, 1, 2, 255)
-ANSWERED_IN_C = {1, *range(3, 9), 10, 11, 12, 15}
+ANSWERED_IN_C = {1, *range(3, 9), 10, 11, 12, 15, 16}
 BOOK = 13
 
 
@@ -36,7 +37,11 @@ def damaged_streams(stream):
 
 def case_of(op, record):
     """A record as the second program's case."""
-    return bridge_case(records.ROOM, record) if op == rows.BRIDGE else case(op, record)
+    if op == rows.BRIDGE:
+        return bridge_case(records.ROOM, record)
+    if op == rows.BRIDGE_DROPPING:
+        return bridge_with_case(records.ROOM, DROPPED, record)
+    return case(op, record)
 
 
 def cases_of_records(length):
@@ -53,10 +58,11 @@ def cases_of_pulses():
 
 
 def cases_of_second():
-    """The leap rule at every month end, codes and places, lengths of strings, and telegrams: the second program's own cases, as
-    far as the C baseline answers them."""
+    """The leap rule at every month end, codes and places, lengths of strings, the coasting mark, and telegrams: the second
+    program's own cases, as far as the C baseline answers them."""
     for name, make in (("month ends", case_months.make), ("codes and places", case_places.make),
-                       ("lengths of strings", case_door.make), ("telegrams", case_telegrams.make)):
+                       ("lengths of strings", case_door.make), ("coasting mark", case_coasting.make),
+                       ("telegrams", case_telegrams.make)):
         yield name, [one for one in make() if one[0] in ANSWERED_IN_C]
 
 
@@ -84,6 +90,18 @@ def compare(ours, plain, length):
             raise SystemExit(f"bench: {name}: {first_difference(cases, answers)}")
         total += len(cases)
     return total
+
+
+def compare_ways(programs):
+    """That the counted programs bridge by the way that their operation stands for. The page that they print shows it of a string
+    that coasts with a quality of its own that is not 15."""
+    string = records.accepted("Meinberg", 3)
+    for op in (rows.BRIDGE, rows.BRIDGE_DROPPING):
+        frame = second_answers(case_of(op, string)).split()[2][:200]
+        for program in programs:
+            page = kit.output_of(program, rows.given_to(op, [string])).partition(b"\n")[2]
+            if page[:100].hex().encode() != frame:
+                raise SystemExit(f"bench: {program}: operation {op} bridges another way")
 
 
 def compare_listings(programs, length):

@@ -10,7 +10,7 @@ PULSE_GOAL = 150
 TELEGRAM_GOAL = 2
 # The operation that reads a record of each format: both strings go through one door.
 READ = {"Meinberg": 1, "Uni Erlangen": 1, "IEEE 1344": 3, "DCF77": 4}
-WRITE, BRIDGE, TELEGRAM = 5, 13, 15
+WRITE, BRIDGE, BRIDGE_DROPPING, TELEGRAM = 5, 13, 14, 15
 FRAME_PULSES, MINUTE_PULSES = 11, 12
 # Operations that are the driver's work alone: its loop over the records, and for writers the readings taken apart before.
 LOOP, DECODING = 0, 9
@@ -27,7 +27,7 @@ def of_format(make, form):
 
 def record_rows():
     """Every reader, that of strings with either string, every writer, and the telegram: accepted, refused early, refused by its
-    last check; and the bridge with either string."""
+    last check; and the bridge with either string, as it is and with the coasting mark dropped."""
     rows = []
     reads = (("accepted", records.accepted), ("refused: length", records.too_short),
              ("refused: first byte", records.first_byte_wrong), ("refused: last check", records.refused_late))
@@ -41,7 +41,9 @@ def record_rows():
     telegrams = (("accepted", records.telegram_asked), ("refused: no room", records.telegram_without_room),
                  ("refused: last check", records.telegram_too_late))
     rows += [Row(f"telegram, {name}", TELEGRAM, make, LOOP) for name, make in telegrams]
-    rows += [Row(f"bridge, {form}, accepted", BRIDGE, of_format(records.accepted, form), LOOP) for form in records.STRINGS]
+    bridges = (("accepted", BRIDGE), ("mark dropped", BRIDGE_DROPPING))
+    rows += [Row(f"bridge, {form}, {name}", op, of_format(records.accepted, form), LOOP)
+             for name, op in bridges for form in records.STRINGS]
     return rows
 
 

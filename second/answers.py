@@ -23,6 +23,8 @@ READING_BYTES = 12
 WRITER_BYTES = 15
 TELEGRAM_BYTES = 20
 BAD = "bad"
+# Number in a case -> what becomes of the coasting mark
+WAYS = {1: bridge.Coasting.WORSE, 2: bridge.Coasting.DROPPED}
 
 
 def time_words(first: str, reading: Reading, beside: Union[bool, int, None]) -> list:
@@ -110,6 +112,13 @@ def bridge_line(payload: bytes) -> str:
     return written_line(bridge.bridge(payload[1:], output), output)
 
 
+def bridge_with_line(payload: bytes) -> str:
+    if len(payload) < 2 or payload[1] not in WAYS:
+        return BAD
+    output = bytearray([FILLING]) * payload[0]
+    return written_line(bridge.bridge_with(payload[2:], WAYS[payload[1]], output), output)
+
+
 def said_line(reader, payload: bytes) -> str:
     """Feeds a fresh reader; what it said, with the count of pulses at which it said it."""
     parts = ["said"]
@@ -163,6 +172,7 @@ LINES = {
     13: lambda payload: listing_text(payload).replace("\n", "|"),
     14: lambda payload: published.table_line(),
     15: telegram_line,
+    16: bridge_with_line,
     20: lambda payload: changes_line(clock_string.read, payload),
     22: lambda payload: changes_line(ieee1344.read, payload),
     23: lambda payload: changes_line(dcf77.read, payload),

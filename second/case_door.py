@@ -5,7 +5,8 @@ kind is not that of the string after it; and ops that are none."""
 from datetime import datetime
 from typing import Iterator, List
 
-from case_parts import PLAIN, bridge_case, case, local, raw_erlangen, raw_meinberg
+from case_parts import (DROPPED, PLAIN, bridge_case, bridge_with_case, case, local, raw_erlangen,
+                        raw_meinberg)
 
 LEAP_SECOND = local(datetime(2016, 12, 31, 23, 59), 0, 60, leap=True)
 SHORT = (raw_meinberg(), raw_meinberg(LEAP_SECOND),
@@ -24,12 +25,14 @@ REFUSED = (
 LENGTHS = (*range(141), 288, 324, 544, 580, 1000, 3900)
 NEAR = (31, 32, 33, 36, 64, 67, 68, 69, 100)
 FILLERS = (b" ", b"\x00", b"\n")
-NO_OPS = (0, 2, 16, 17, 18, 19, 21, 24, 255)
+NO_OPS = (0, 2, 17, 18, 19, 21, 24, 25, 255)
 
 
 def told(string: bytes) -> Iterator[bytes]:
-    """Read; bridged with room for a frame; and with too little, which is refused whatever it is."""
+    """Read; bridged with room for a frame, also with the mark dropped; and with too little room, which is
+    refused whatever it is."""
     yield case(1, string)
+    yield bridge_with_case(100, DROPPED, string)
     for room in (100, 99, 0):
         yield bridge_case(room, string)
 

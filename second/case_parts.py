@@ -14,6 +14,7 @@ from reading import Reading
 POSITION = b" 51.9826N    9.2258E  176m"
 PLAIN = Reading(2024, 2, 29, 12, 34, 56, 2, False, False, False, 0)  # case 6 of document 01
 LARGEST_PAYLOAD = 4000
+WORSE, DROPPED = 1, 2  # the ways of op 16
 REAL_LEAP_DAYS = ((2005, 12, 31), (2008, 12, 31), (2016, 12, 31), (2012, 6, 30), (2015, 6, 30))
 
 
@@ -74,6 +75,10 @@ def with_leap(day: date, asked: Asked) -> Asked:
 
 def bridge_case(room: int, string: bytes) -> bytes:
     return case(10, bytes((room,)) + string)
+
+
+def bridge_with_case(room: int, way: int, string: bytes) -> bytes:
+    return case(16, bytes((room, way)) + string)
 
 
 def local(utc: datetime, offset: int, second: int = 0, **flags) -> Reading:

@@ -7,8 +7,9 @@ from typing import Callable, Iterator, Tuple
 import erlangen
 import meinberg
 from case_door import fitted
-from case_parts import (POSITION, bridge_case, case, local, mend_frame, mend_minute, raw_erlangen,
-                        raw_frame, raw_meinberg, raw_minute, reading_bytes, write_case)
+from case_parts import (DROPPED, POSITION, WORSE, bridge_case, bridge_with_case, case, local,
+                        mend_frame, mend_minute, raw_erlangen, raw_frame, raw_meinberg, raw_minute,
+                        reading_bytes, write_case)
 from case_streams import DAMAGES, damaged
 from case_telegrams import any_telegram
 from reading import Reading
@@ -134,8 +135,16 @@ def a_write(op: int, length: int, dice: random.Random) -> bytes:
 
 
 def a_bridge(dice: random.Random) -> bytes:
+    """Half the time with a way named, seldom one that is none. The string itself seeds the dice for
+    that, so that the other cases of a seed do not depend on it."""
     string = dice.choice((a_meinberg, an_erlangen))(dice)
-    return bridge_case(dice.choice((100, 100, 100, 100, 101, 99, 255, 0)), string)
+    room = dice.choice((100, 100, 100, 100, 101, 99, 255, 0))
+    own_dice = random.Random(string)
+    if own_dice.random() < 0.5:
+        return bridge_case(room, string)
+    known = own_dice.random() < 0.95
+    way = own_dice.choice((WORSE, DROPPED)) if known else own_dice.randrange(256)
+    return bridge_with_case(room, way, string)
 
 
 def a_stream(op: int, dice: random.Random) -> bytes:
@@ -167,7 +176,7 @@ def a_book(dice: random.Random) -> bytes:
 
 
 def a_bad_case(dice: random.Random) -> bytes:
-    op = dice.choice((0, 2, 5, 6, 7, 8, 9, 10, 14, 19, 21, 24, 128, 255))
+    op = dice.choice((0, 2, 5, 6, 7, 8, 9, 10, 14, 16, 21, 24, 128, 255))
     return case(op, bytes(dice.randrange(256) for _ in range(dice.randrange(16))))
 
 

@@ -4,6 +4,7 @@ Use: cases.py NAME, or cases.py random SEED COUNT."""
 import sys
 from typing import Iterator
 
+import case_coasting
 import case_frames
 import case_minutes
 import case_months
@@ -23,6 +24,7 @@ NAMED = {
     "places": case_places.make,
     "stamps": case_others.stamps,
     "bridges": case_others.bridges,
+    "coasting": case_coasting.make,
     "streams": case_streams.make,
     "books": case_others.books,
     "telegrams": case_telegrams.make,

@@ -17,7 +17,8 @@ import erlangen
 import ieee1344
 import meinberg
 from bridge import bridge
-from check_door import FILLED, check_bridged, check_door, check_string, check_written
+from check_coasting import check_bridged, check_coasting
+from check_door import FILLED, check_door, check_string, check_written
 from check_places import PLACES, Asked, asked_in, check_places, check_seen, refusals_in
 from check_telegrams import check_read_back, check_telegrams
 from checks import Checks
@@ -166,8 +167,8 @@ def check_write(check: Checks, op: int, payload: bytes, line: str) -> None:
     output = b"" if words[-1] == "-" else bytes.fromhex(words[-1])
     length = int(words[1]) if words[0] == "wrote" else 0
     check.that(output[length:] == FILLED * (len(output) - length), "untouched " + line)
-    if op == 10:
-        check_bridged(check, payload, line)
+    if op in (10, 16):
+        check_bridged(check, op, payload, line)
     elif words[0] != "wrote":
         return
     elif op == 15:
@@ -184,7 +185,7 @@ def check_round_trip(check: Checks, op: int, payload: bytes, line: str) -> None:
     """What is read writes back to the same bytes; what is written reads back the same."""
     if op in (1, 3, 4):
         check_read(check, op, payload, line)
-    elif op in (5, 6, 7, 8, 10, 15):
+    elif op in (5, 6, 7, 8, 10, 15, 16):
         check_write(check, op, payload, line)
 
 
@@ -231,7 +232,8 @@ def check_streams(check: Checks) -> None:
 def main() -> None:
     check = Checks()
     for part in (check_dates, check_month_ends, check_frames, check_layouts, check_listing,
-                 check_places, check_door, check_telegrams, check_order, check_streams):
+                 check_places, check_door, check_coasting, check_telegrams, check_order,
+                 check_streams):
         part(check)
     for what in check.failed[:50]:
         print("failed: " + what)

@@ -6,7 +6,6 @@ import answers
 import book
 import clock_string
 import erlangen
-import ieee1344
 import meinberg
 from bridge import bridge
 from case_door import LONG, NO_OPS, REFUSED, SHORT
@@ -122,19 +121,6 @@ def check_written(check: Checks, op: int, payload: bytes, string: bytes) -> None
     check.that(clock_string.read(string) == told, "read back %r" % string)
     part = payload[15:] if op == 6 else b""
     check.that(clock_string.position_part(string) == part, "part read back %r" % string)
-
-
-def check_bridged(check: Checks, payload: bytes, line: str) -> None:
-    """A line of op 10: room first, then the refusal that the string has anywhere, else a frame that
-    tells the string's time, its two announcements left aside."""
-    told = clock_string.read(payload[1:]) if payload[0] >= 100 else Refusal(1)
-    if isinstance(told, Refusal):
-        check.that(line.startswith("no %d %d " % told), "bridge " + line)
-        return
-    words = line.split()
-    framed = ieee1344.read(bytes.fromhex(words[2])[:100])
-    same = [reading._replace(leap=False, change=False) for reading in (framed.reading, told.reading)]
-    check.that(words[:2] == ["wrote", "100"] and same[0] == same[1], "bridge " + line)
 
 
 def check_door(check: Checks) -> None:

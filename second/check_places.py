@@ -53,6 +53,8 @@ PLACES: Dict[Asked, Table] = {
     (10, 0): placeless(1), (11, 0): FRAME, (12, 0): MINUTE,
     (13, 0): joined(MEINBERG, ERLANGEN, FRAME, MINUTE, placeless(12, 13, 14)),
     (14, 0): {}, (15, 0): placeless(1, 18, 15, 16, 17, 9, 12)}
+# A bridge refuses alike, whatever becomes of the coasting mark.
+PLACES.update({(16, length): PLACES[10, length] for length in (32, 68, 0)})
 
 # Date, weekday and time; code, its place in Meinberg's string, its place in Uni Erlangen's.
 STRINGS = (
@@ -187,7 +189,7 @@ def check_writers(check: Checks) -> None:
 
 def asked_in(op: int, payload: bytes) -> Asked:
     """What a case asks, as the table of places has it."""
-    strings = {1: payload, 10: payload[1:]}
+    strings = {1: payload, 10: payload[1:], 16: payload[2:]}
     length = len(strings.get(op, b""))
     return op, length if (op, length) in PLACES else 0
 

@@ -2,7 +2,7 @@
 The calendar is Python's own datetime; everything else is taken from document 01 as two requests
 amend it. L3: a leap second may close any UTC month. L5: a time, a date, and a quality or head out of
 range have a code each, 15, 16 and 17 where 5 stood, and a reader's refusal gives a field's place.
-(L1 and L8 amend nothing here; clock_string.py and telegram.py have them.)"""
+(L1, L7 and L8 amend nothing here; clock_string.py, bridge.py and telegram.py have them.)"""
 
 from datetime import date, datetime, timedelta
 from typing import List, Mapping, NamedTuple, Optional, Sequence, Union

@@ -131,6 +131,13 @@ static void put_bridged(const uint8_t *p, size_t length)
     put_written(bridge(p + 1, length - 1, lent, p[0]), lent, p[0]);
 }
 
+static void put_bridged_with(const uint8_t *p, size_t length)
+{
+    uint8_t lent[LENT];
+    memset(lent, 0xA5, sizeof lent);
+    put_written(bridge_with(p + 2, length - 2, p[1], lent, p[0]), lent, p[0]);
+}
+
 static void put_said(size_t at, struct answer a, const struct reading *r)
 {
     put_field(' ', (unsigned)at);
@@ -185,6 +192,8 @@ static void put_answer(uint8_t op, const uint8_t *payload, size_t length)
         put_minutes(payload, length);
     else if (op == 15 && length >= TELEGRAM_LENGTH)
         put_telegram(payload);
+    else if (op == 16 && length >= 2 && (payload[1] == COASTING_WORSE || payload[1] == COASTING_DROPPED))
+        put_bridged_with(payload, length);
     else
         put("bad");
 }

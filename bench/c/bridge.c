@@ -1,7 +1,7 @@
 /* C baseline: the bridge from either clock string to an IEEE 1344 frame. */
 #include "formats.h"
 
-struct answer bridge(const uint8_t *s, size_t length, uint8_t *out, size_t room)
+struct answer bridge_with(const uint8_t *s, size_t length, enum coasting way, uint8_t *out, size_t room)
 {
     enum kind kind;
     struct reading r;
@@ -14,5 +14,12 @@ struct answer bridge(const uint8_t *s, size_t length, uint8_t *out, size_t room)
     bool within = r.second >= 1 && r.second <= 59;
     r.leap = r.leap && within && in_leap_minute(&r);
     r.change = r.change && within && r.minute == 59;
+    if (coasting && way == COASTING_WORSE)
+        r.quality = 15;
     return frame_write(&r, out, room);
+}
+
+struct answer bridge(const uint8_t *s, size_t length, uint8_t *out, size_t room)
+{
+    return bridge_with(s, length, COASTING_WORSE, out, room);
 }

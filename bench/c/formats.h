@@ -49,7 +49,12 @@ struct sent_minute {
 struct answer telegram_write(const struct summer_rule *rule, const struct leap_second *leap, const struct sent_minute *sent,
                              uint16_t head, uint8_t *out, size_t room);
 
+/* What becomes of a string's coasting mark, for which a frame has no pulse: the quality is 15, or the mark is dropped. The
+   numbers are those of a case. */
+enum coasting { COASTING_WORSE = 1, COASTING_DROPPED };
 /* Reads a string, whichever it is, and writes the frame of its reading. */
+struct answer bridge_with(const uint8_t *s, size_t length, enum coasting way, uint8_t *out, size_t room);
+/* The same with COASTING_WORSE. */
 struct answer bridge(const uint8_t *s, size_t length, uint8_t *out, size_t room);
 
 /* The pulse readers say true where the pulse closed a frame or a minute, and then the answer. */

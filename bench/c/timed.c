@@ -38,6 +38,7 @@ __attribute__((noinline)) static uint64_t read_one(uint8_t op, const uint8_t *re
     case 3: a = frame_read(record, size, &r); return of_read(a, &r, 0);
     case 4: a = minute_read(record, size, &r, &head); return of_read(a, &r, head);
     case 13: return of_answer(bridge(record, size, page, PAGE));
+    case 14: return of_answer(bridge_with(record, size, COASTING_DROPPED, page, PAGE));
     case 15: return of_telegram(record, size, page);
     default: return size;
     }

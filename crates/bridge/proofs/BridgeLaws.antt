@@ -1,9 +1,9 @@
--- What document 01 asks of the bridge, for any base year: the room is looked at first, then the string's own refusal goes
--- through unchanged, and nothing else refuses; the frame that is written reads back as the reading that goes over.
+-- What document 01 and L7 ask of the bridge, for any base year and either way: the room is looked at first, then the string's own
+-- refusal goes through unchanged, and nothing else refuses; the frame that is written reads back as the reading that goes over.
 use mathlib.Core.Bool.{Bool, true, false, cond}
 use mathlib.Core.List.{List, _++_}
 use mathlib.Core.Logic.{_⊎_, inl, inr, _↔_}
-use mathlib.Core.Path.{_≡_, refl, _∙_}
+use mathlib.Core.Path.{_≡_, refl}
 use Prim.Native.Nat.{ℕ, _≤_, _<_}
 use lib.Dec.{ltb}
 use lib.ListN.{length, take, drop}
@@ -26,45 +26,48 @@ use Rattle.irig.specs.Faults.{frameLength, readFrame}
 use Rattle.irig.specs.Writing.{frameOf}
 use Rattle.irig.proofs.WriteLaws.{length-frame}
 use Rattle.irig.proofs.FrameLaws.{frame-read}
-use Rattle.bridge.specs.Bridge.{pendingOf, answerFor, bridgeAnswer, bridgeFilled}
-use Rattle.bridge.proofs.PendingLaws.{pending-checked}
+use Rattle.bridge.specs.declared.Coasting.{Coasting}
+use Rattle.bridge.specs.declared.Coasting.the-variants.{Worse}
+use Rattle.bridge.specs.Bridge.{carriedBy, answerFor, bridgeAnswer, bridgeFilled}
+use Rattle.bridge.proofs.CarriedLaws.{carried-good}
 
 module _ (base : ℕ) (s : List ℕ) where
   -- the reading of an accepted string passes the checks that every writer shares, and so does what goes over, so that no frame is refused
-  pub carried-checked : (r : Reading) (coasting : Bool) → Tells base s r coasting → checkedOf base (pendingOf r) ≡ Good
-  carried-checked r coasting e = pending-checked base r ∙ accepted-checked base s r coasting e
+  pub carried-checked : (way : Coasting) (r : Reading) (coasting : Bool) → Tells base s r coasting → checkedOf base (carriedBy way coasting r) ≡ Good
+  carried-checked way r coasting e = carried-good base way coasting r (accepted-checked base s r coasting e)
 
-  module _ (buffer : List ℕ) where
+  module _ (way : Coasting) (buffer : List ℕ) where
     -- "The bridge checks output length first", whatever the string is
     pub too-short-first : length buffer < frameLength
-        → (bridgeAnswer base s (length buffer) ≡ Refused (number Length)) × (bridgeFilled base s buffer ≡ buffer)
+        → (bridgeAnswer base s (length buffer) ≡ Refused (number Length)) × (bridgeFilled way base s buffer ≡ buffer)
     unfolding bridgeAnswer bridgeFilled
     too-short-first h = rw (lt-ltb (length buffer) frameLength h) (refl, refl)
 
     module _ (enough : frameLength ≤ length buffer) where
       -- then the string's refusal, code and place
       pub string-refusal-unchanged : (x : Refusal) → readString base s ≡ No x
-          → (bridgeAnswer base s (length buffer) ≡ Refused x) × (bridgeFilled base s buffer ≡ buffer)
+          → (bridgeAnswer base s (length buffer) ≡ Refused x) × (bridgeFilled way base s buffer ≡ buffer)
       unfolding bridgeAnswer bridgeFilled
       string-refusal-unchanged x e = rw (le-ltb (length buffer) frameLength enough, e) (refl, refl)
 
       module _ (r : Reading) (coasting : Bool) (accepted : Tells base s r coasting) where
         -- then success, "from the start of the buffer and no others"
         pub accepted-written : (bridgeAnswer base s (length buffer) ≡ Wrote frameLength)
-            × (bridgeFilled base s buffer ≡ frameOf (pendingOf r) ++ drop frameLength buffer)
+            × (bridgeFilled way base s buffer ≡ frameOf (carriedBy way coasting r) ++ drop frameLength buffer)
         unfolding bridgeAnswer bridgeFilled
         accepted-written = rw (le-ltb (length buffer) frameLength enough, accepted) (refl, refl)
 
-        pub rest-untouched : drop frameLength (bridgeFilled base s buffer) ≡ drop frameLength buffer
+        pub rest-untouched : drop frameLength (bridgeFilled way base s buffer) ≡ drop frameLength buffer
         rest-untouched =
-            rw (accepted-written .1) (drop-at (frameOf (pendingOf r)) (drop frameLength buffer) frameLength (length-frame (pendingOf r)))
+            let c = carriedBy way coasting r in
+            rw (accepted-written .1) (drop-at (frameOf c) (drop frameLength buffer) frameLength (length-frame c))
 
-        -- the frame says the string's reading, with what is pending
-        pub frame-reads-back : readFrame base (take frameLength (bridgeFilled base s buffer)) ≡ Told (pendingOf r)
+        -- the frame says the string's reading, with what is pending and the quality that the way gives it
+        pub frame-reads-back : readFrame base (take frameLength (bridgeFilled way base s buffer)) ≡ Told (carriedBy way coasting r)
         frame-reads-back =
-            let p = pendingOf r in
-            rw (accepted-written .1, take-at (frameOf p) (drop frameLength buffer) frameLength (length-frame p))
-            (frame-read base p (checked-is base p (carried-checked r coasting accepted)))
+            let c = carriedBy way coasting r in
+            rw (accepted-written .1, take-at (frameOf c) (drop frameLength buffer) frameLength (length-frame c))
+            (frame-read base c (checked-is base c (carried-checked way r coasting accepted)))
 
 -- ---- what an answer tells
 
@@ -100,18 +103,18 @@ module _ (base : ℕ) (s : List ℕ) where
       go false wide (Erlangen r coasting) q e = (cc, ltb-false room frameLength wide, (r, coasting, rw q))
 
   module _ (buffer : List ℕ) where
-    -- success exactly where there is room and the string is accepted
+    -- success exactly where there is room and the string is accepted, whichever way
     pub exactly : (bridgeAnswer base s (length buffer) ≡ Wrote frameLength) ↔ ((frameLength ≤ length buffer) × Accepted)
     exactly = (
       λ e. (let w = wrote-by (length buffer) frameLength e in (w .1, w .2)),
-      λ a. accepted-written base s buffer (a .0) (a .1 .0) (a .1 .1) (a .1 .2) .0,
+      λ a. accepted-written base s Worse buffer (a .0) (a .1 .0) (a .1 .1) (a .1 .2) .0,
     )
 
-    -- "A refusal leaves all lent memory untouched"
-    pub refused-untouched : (x : Refusal) → bridgeAnswer base s (length buffer) ≡ Refused x → bridgeFilled base s buffer ≡ buffer
-    refused-untouched x e = go (refused-by (length buffer) x e)
+    -- "A refusal leaves all lent memory untouched", and is the same whichever way
+    pub refused-untouched : (way : Coasting) (x : Refusal) → bridgeAnswer base s (length buffer) ≡ Refused x → bridgeFilled way base s buffer ≡ buffer
+    refused-untouched way x e = go (refused-by (length buffer) x e)
       where
         go : ((length buffer < frameLength) × (x ≡ number Length)) ⊎ ((frameLength ≤ length buffer) × (readString base s ≡ No x))
-            → bridgeFilled base s buffer ≡ buffer
-        go (inl a) = too-short-first base s buffer (a .0) .1
-        go (inr a) = string-refusal-unchanged base s buffer (a .0) x (a .1) .1
+            → bridgeFilled way base s buffer ≡ buffer
+        go (inl a) = too-short-first base s way buffer (a .0) .1
+        go (inr a) = string-refusal-unchanged base s way buffer (a .0) x (a .1) .1

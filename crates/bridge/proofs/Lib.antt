@@ -1,4 +1,6 @@
 pub mod PendingLaws
+pub mod CarriedLaws
 pub mod BridgeLaws
+pub mod CoastingLaws
 pub mod Unique
 pub mod OwedLaws

@@ -1,2 +1,3 @@
 pub mod Bridge
+pub mod Bridge01
 pub mod Objections

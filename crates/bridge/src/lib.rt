@@ -1,5 +1,6 @@
-// The bridge: reads a clock string and writes the IEEE 1344 frame of its reading. The coasting mark is dropped, and the two
-// announcements go over only in the minute before they come true.
+// The bridge: reads a clock string and writes the IEEE 1344 frame of its reading. A frame has no place for the coasting mark: the
+// clock looks worse in it, unless the caller names the way that drops the mark. The two announcements go over only in the minute
+// before they come true.
 use clock_string::read;
 use irig::Ieee1344;
 use reading::Fault;
@@ -18,19 +19,33 @@ ghost use Rattle.reading.specs.Years.{base};
 ghost use Rattle.reading.specs.Universal.{utcOf};
 ghost use Rattle.reading.specs.Leap.{leapWindow};
 ghost use Rattle.clock_string.specs.Reader.{whichever};
-ghost use Rattle.bridge.specs.Bridge.{pendingOf, bridgeAnswer, bridgeFilled};
+ghost use Rattle.bridge.specs.Bridge.{qualityBy, carriedBy, bridgeAnswer, bridgeFilled};
 
-// The room is looked at before the string.
+// What becomes of a string's coasting mark in its frame: quality 15, whatever the string's own is, or nothing.
+pub enum Coasting {
+    Worse,
+    Dropped,
+}
+
+// A clock that coasts looks worse.
 pub fn bridge(s: &[u8], out: &mut [u8]) -> Written
     ensures { λ w. ⌜ w ≡ bridgeAnswer base (now (s .entry)) (length (now (out .entry))) ⌝ }
-    ensures { λ w. ⌜ now (out .exit) ≡ bridgeFilled base (now (s .entry)) (now (out .entry)) ⌝ }
+    ensures { λ w. ⌜ now (out .exit) ≡ bridgeFilled Coasting.Worse base (now (s .entry)) (now (out .entry)) ⌝ }
+{
+    bridge_with(s, Coasting::Worse, out)
+}
+
+// The same with the way named. The room is looked at before the string.
+pub fn bridge_with(s: &[u8], way: Coasting, out: &mut [u8]) -> Written
+    ensures { λ w. ⌜ w ≡ bridgeAnswer base (now (s .entry)) (length (now (out .entry))) ⌝ }
+    ensures { λ w. ⌜ now (out .exit) ≡ bridgeFilled way base (now (s .entry)) (now (out .entry)) ⌝ }
 {
     if out.len() < Ieee1344::LENGTH {
         return refuse(refusal_of(Fault::Length), out);
     }
     let answer = whichever(read(s));
     match answer {
-        Answer::Time(r, _) => Ieee1344::write(pending_of(r), out),
+        Answer::Time(r, coasting) => Ieee1344::write(carried_by(way, coasting, r), out),
         Answer::No(refusal) => refuse(refusal, out),
     }
 }
@@ -64,9 +79,25 @@ fn leap_pending(r: Reading) -> bool
     false
 }
 
-// A string announces well ahead; a frame says that something is pending in the last minute alone.
-fn pending_of(r: Reading) -> Reading
-    ensures { λ p. ⌜ p ≡ pendingOf r ⌝ }
+// 15 is "failed", the worst that a frame can say of its clock.
+fn quality_by(way: Coasting, coasting: bool, own: u8) -> u8
+    ensures { λ q. ⌜ q ≡ qualityBy way coasting own ⌝ }
+{
+    match way {
+        Coasting::Worse => {
+            if coasting {
+                return 15;
+            }
+            own
+        }
+        Coasting::Dropped => own,
+    }
+}
+
+// A string announces well ahead; a frame says that something is pending in the last minute alone. A quality stands in the mark's
+// place, and all else goes over as it is.
+fn carried_by(way: Coasting, coasting: bool, r: Reading) -> Reading
+    ensures { λ c. ⌜ c ≡ carriedBy way coasting r ⌝ }
 {
     let offset = r.offset;
     Reading {
@@ -80,6 +111,6 @@ fn pending_of(r: Reading) -> Reading
         summer: r.summer,
         leap: leap_pending(r),
         change: r.change & change_window(r.minute, r.second),
-        quality: r.quality,
+        quality: quality_by(way, coasting, r.quality),
     }
 }

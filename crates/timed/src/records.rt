@@ -1,7 +1,9 @@
 // Reading each record, bridging it, or sending what it says.
 use super::answers;
 use super::sent;
+use bridge::Coasting;
 use bridge::bridge;
+use bridge::bridge_with;
 use clock_string::read;
 use dcf77::Dcf77;
 use irig::Ieee1344;
@@ -14,6 +16,7 @@ fn once(op: u8, given: &[u8], page: &mut [u8]) -> u64 {
         3 => answers::of_frame(Ieee1344::read(given)),
         4 => answers::of_minute(Dcf77::read(given)),
         13 => answers::of_written(bridge(given, page)),
+        14 => answers::of_written(bridge_with(given, Coasting::Dropped, page)),
         15 => sent::written(given, page),
         _ => given.len() as u64,
     }

@@ -1,5 +1,6 @@
--- What a case's payload holds: bytes at places, a reading in its first twelve, and what a telegram is made of.
-use mathlib.Core.Bool.{Bool, not, cond}
+-- What a case's payload holds: bytes at places, a reading in its first twelve, what a telegram is made of, and what is named for a
+-- coasting mark.
+use mathlib.Core.Bool.{Bool, not, _||_, cond}
 use mathlib.Core.List.{List}
 use Prim.Native.Nat.{ℕ, _+_, _-_, _*_}
 use lib.Dec.{eqb, ltb}
@@ -12,6 +13,8 @@ use Rattle.summer.specs.declared.SummerRule.{SummerRule}
 use Rattle.telegram.specs.declared.Sent.{Sent}
 use Rattle.telegram.specs.declared.LeapSecond.{LeapSecond}
 use Rattle.telegram.specs.declared.LeapSecond.the-variants.{None, Closes}
+use Rattle.bridge.specs.declared.Coasting.{Coasting}
+use Rattle.bridge.specs.declared.Coasting.the-variants.{Worse, Dropped}
 
 -- the byte at a place; past the end it is 0
 abbrev pub byteAt : List ℕ → ℕ → ℕ
@@ -64,3 +67,13 @@ sentIn s = record { date = dateAt s 6; hour = byteAt s 10; minute = byteAt s 11 
 -- none is configured where byte 12 is 0
 unfoldable pub leapIn : List ℕ → LeapSecond
 leapIn s = cond (flagAt s 12) (Closes (dateAt s 13)) None
+
+-- ---- what is named for a coasting mark
+
+-- byte 1 names a way where it is 1 or 2
+unfoldable pub namesWay : List ℕ → Bool
+namesWay s = eqb (byteAt s 1) 1 || eqb (byteAt s 1) 2
+
+-- 2 drops the mark
+unfoldable pub wayIn : List ℕ → Coasting
+wayIn s = cond (eqb (byteAt s 1) 2) Dropped Worse

@@ -20,7 +20,7 @@ pub(crate) fn answer(page: &mut [u8], op: u8, payload: &[u8]) {
 fn answer_by(op: u8, payload: &[u8]) {
     match op {
         1 | 3 | 4 => read_by(op, payload),
-        5..=8 | 10 | 15 => written(op, payload),
+        5..=8 | 10 | 15..=16 => written(op, payload),
         9 => stamped(payload),
         11 => fed_frames(payload),
         12 => fed_minutes(payload),

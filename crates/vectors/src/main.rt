@@ -15,6 +15,7 @@ mod readers;
 mod sent;
 mod stamped;
 mod table;
+mod way;
 mod writers;
 
 // A case that the end of the input cuts off, where there is a byte of it, is the last.

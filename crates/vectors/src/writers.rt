@@ -9,7 +9,10 @@ use super::sent::leap_in;
 use super::sent::rule_in;
 use super::sent::sent_in;
 use super::stamped::print_refused;
+use super::way::names_way;
+use super::way::way_in;
 use bridge::bridge;
+use bridge::bridge_with;
 use dcf77::Dcf77;
 use erlangen::Erlangen;
 use irig::Ieee1344;
@@ -46,11 +49,12 @@ fn send(payload: &[u8], buffer: &mut [u8]) -> Written {
     sender.write(sent_in(payload), pair(payload, 17), buffer)
 }
 
-// 10 is the bridge: the room and the string; 15 is a telegram.
+// 10 is the bridge: the room and the string; 16 has between them what becomes of the coasting mark; 15 is a telegram.
 fn write_all_by(op: u8, payload: &[u8], buffer: &mut [u8]) -> Written {
     match op {
         10 => bridge(behind(payload, 1), buffer),
         15 => send(payload, buffer),
+        16 => bridge_with(behind(payload, 2), way_in(payload), buffer),
         _ => write_by(op, payload, buffer),
     }
 }
@@ -60,6 +64,7 @@ fn room_in(op: u8, payload: &[u8]) -> u8 {
     match op {
         10 => byte(payload, 0),
         15 => byte(payload, 19),
+        16 => byte(payload, 0),
         _ => byte(payload, 14),
     }
 }
@@ -70,6 +75,9 @@ fn is_whole(op: u8, payload: &[u8]) -> bool {
     }
     if op == 15 {
         return 20 <= payload.len();
+    }
+    if op == 16 {
+        return names_way(payload);
     }
     15 <= payload.len()
 }

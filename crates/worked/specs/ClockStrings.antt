@@ -55,10 +55,9 @@ clockStrings =
     -- the writer that the answer names gives the same bytes
     ∷ gives (toMeinberg (case6 (plus 2)) false (sevens 32)) (wrote 32 short)
     ∷ gives (toErlangen (case6 (plus 2)) true alphabet (sevens 68)) (wrote 68 (long coasting))
-    -- the bridge takes either, "coasting dropped"; another length is 1, and so is the room, before the string is looked at
+    -- the bridge takes either; another length is 1, and so is the room, before the string is looked at
     ∷ gives (bridged short (sevens 101)) (wrote 100 (frame6 ++ sevens 1))
-    ∷ gives (bridged (meinberg6 32 42 32 32) (sevens 100)) (wrote 100 frame6)
-    ∷ gives (bridged (long coasting) (sevens 100)) (wrote 100 frame6)
+    ∷ gives (bridged (long noFlags) (sevens 100)) (wrote 100 frame6)
     ∷ gives (bridged (take 31 short) (sevens 100)) (wroteNone 1 0 (sevens 100))
     ∷ gives (bridged (take 32 (long noFlags)) (sevens 100)) (wroteNone 2 1 (sevens 100))
     ∷ gives (bridged (take 32 (long noFlags)) (sevens 99)) (wroteNone 1 0 (sevens 99))

@@ -6,3 +6,4 @@ pub mod MonthEnds
 pub mod Places
 pub mod Telegrams
 pub mod ClockStrings
+pub mod CoastingMarks

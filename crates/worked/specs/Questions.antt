@@ -32,6 +32,8 @@ use Rattle.dcf77.specs.declared.Answer.the-variants as minute
 use Rattle.dcf77.specs.Forms.{lengthOf, dueLong}
 use Rattle.dcf77.specs.Reader.{readDcf77}
 use Rattle.dcf77.specs.Writer.{bytesOf as minuteBytes, writeFault as minuteFault}
+use Rattle.bridge.specs.declared.Coasting.{Coasting}
+use Rattle.bridge.specs.declared.Coasting.the-variants.{Worse}
 use Rattle.bridge.specs.Bridge.{bridgeAnswer, bridgeFilled}
 use Rattle.summer.specs.declared.SetDay.{SetDay}
 use Rattle.summer.specs.Changes.{changeDate}
@@ -59,14 +61,18 @@ pub data Question : Type 0 where
   toErlangen : Reading → Bool → List ℕ → List ℕ → Question
   toPulses : Reading → List ℕ → Question
   toMarks : Reading → ℕ → List ℕ → Question
-  -- what the bridge does with a clock string and a lent buffer
-  bridged : List ℕ → List ℕ → Question
+  -- what the bridge does with a clock string and a lent buffer, with what becomes of the coasting mark
+  bridgedWith : Coasting → List ℕ → List ℕ → Question
   -- the day of a year that a set day of a rule stands for
   changeOn : SetDay → ℕ → Question
   -- what a sender does with a minute that is being sent, a head and a lent buffer
   telegram : Sender → Sent → ℕ → List ℕ → Question
   -- the listing of a book
   listed : List ℕ → Question
+
+-- the same where nothing is named
+abbrev pub bridged : List ℕ → List ℕ → Question
+bridged s out = bridgedWith Worse s out
 
 pub data Answer : Type 0 where
   day : ℕ → Answer
@@ -136,7 +142,7 @@ answerTo (toErlangen r coasting position out) =
     afterWriting (erlangenFault base r position (length out)) size (erlangenBytes r coasting position) out
 answerTo (toPulses r out) = afterWriting (frameFault base r (length out)) frameLength (frameOf r) out
 answerTo (toMarks r head out) = afterWriting (minuteFault base r head (length out)) (lengthOf (dueLong r)) (minuteBytes r head) out
-answerTo (bridged s out) = ofWritten (bridgeAnswer base s (length out)) (bridgeFilled base s out)
+answerTo (bridgedWith way s out) = ofWritten (bridgeAnswer base s (length out)) (bridgeFilled way base s out)
 answerTo (changeOn s y) = ofDate (changeDate s y)
 answerTo (telegram sender sent head out) =
     afterWriting (telegramFault base sender sent head (length out)) (lengthOf (dueLong (telegramReading sender sent)))
