@@ -96,8 +96,10 @@ def compare_ways(programs):
     """That the counted programs bridge by the way that their operation stands for. The page that they print shows it of a string
     that coasts with a quality of its own that is not 15."""
     string = records.accepted("Meinberg", 3)
-    for op in (rows.BRIDGE, rows.BRIDGE_DROPPING):
-        frame = second_answers(case_of(op, string)).split()[2][:200]
+    frames = {op: second_answers(case_of(op, string)).split()[2][:200] for op in (rows.BRIDGE, rows.BRIDGE_DROPPING)}
+    if frames[rows.BRIDGE] == frames[rows.BRIDGE_DROPPING]:
+        raise SystemExit("bench: the string that is to show the way goes over alike either way")
+    for op, frame in frames.items():
         for program in programs:
             page = kit.output_of(program, rows.given_to(op, [string])).partition(b"\n")[2]
             if page[:100].hex().encode() != frame:

@@ -50,7 +50,7 @@ struct answer telegram_write(const struct summer_rule *rule, const struct leap_s
                              uint16_t head, uint8_t *out, size_t room);
 
 /* What becomes of a string's coasting mark, for which a frame has no pulse: the quality is 15, or the mark is dropped. The
-   numbers are those of a case. */
+   numbers are those of op 16 (second/README.md). */
 enum coasting { COASTING_WORSE = 1, COASTING_DROPPED };
 /* Reads a string, whichever it is, and writes the frame of its reading. */
 struct answer bridge_with(const uint8_t *s, size_t length, enum coasting way, uint8_t *out, size_t room);

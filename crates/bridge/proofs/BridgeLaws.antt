@@ -110,7 +110,7 @@ module _ (base : ℕ) (s : List ℕ) where
       λ a. accepted-written base s Worse buffer (a .0) (a .1 .0) (a .1 .1) (a .1 .2) .0,
     )
 
-    -- "A refusal leaves all lent memory untouched", and is the same whichever way
+    -- "A refusal leaves all lent memory untouched", either way
     pub refused-untouched : (way : Coasting) (x : Refusal) → bridgeAnswer base s (length buffer) ≡ Refused x → bridgeFilled way base s buffer ≡ buffer
     refused-untouched way x e = go (refused-by (length buffer) x e)
       where

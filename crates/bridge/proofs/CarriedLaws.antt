@@ -1,5 +1,5 @@
--- The reading that goes over, with what becomes of the coasting mark: quality 15 exactly where it stands and the way is L7's. All else is
--- 01's, and so it passes the checks that every writer shares.
+-- The reading that goes over: quality 15 where the coasting mark stands and the way is L7's, else the string's own. All else is 01's, and
+-- so it passes the checks that every writer shares.
 use mathlib.Core.Bool.{Bool, true, false}
 use mathlib.Core.Logic.{_⊎_, inl, inr, _↔_}
 use mathlib.Core.Path.{_≡_, refl, ap, _∙_}

@@ -1,7 +1,8 @@
 -- What L7 asks of the bridge, and what it leaves: a string that coasts reads back from its frame with quality 15, and where the mark
--- does not stand or is dropped by name, the bridge is 01's, byte for byte.
+-- does not stand or is dropped by name, the bridge is what it was before L7, byte for byte.
 use mathlib.Core.Bool.{Bool, true, false, cond}
 use mathlib.Core.List.{List}
+use mathlib.Core.Logic.{_⊎_, inl, inr, _↔_}
 use mathlib.Core.Path.{_≡_, refl, sym, ap, _∙_}
 use Prim.Native.Nat.{ℕ, _≤_, _<_}
 use native.Mathlib.Omega.{arith}
@@ -17,9 +18,9 @@ use Rattle.irig.specs.declared.Answer.the-variants.{Time as Told, No as Untold}
 use Rattle.irig.specs.Faults.{frameLength, readFrame}
 use Rattle.bridge.specs.declared.Coasting.{Coasting}
 use Rattle.bridge.specs.declared.Coasting.the-variants.{Worse, Dropped}
-use Rattle.bridge.specs.Bridge.{pendingOf, graded, bytesFor, bridgeFilled}
+use Rattle.bridge.specs.Bridge.{pendingOf, qualityBy, graded, carriedBy, bytesFor, bridgeFilled}
 use Rattle.bridge.specs.Bridge01.{bytesFor01, filled01}
-use Rattle.bridge.proofs.CarriedLaws.{dropped, unmarked, worse}
+use Rattle.bridge.proofs.CarriedLaws.{dropped, unmarked, worse, quality-carried, fifteen-exactly}
 use Rattle.bridge.proofs.BridgeLaws.{frame-reads-back}
 
 -- the quality that a frame's reader tells
@@ -28,21 +29,38 @@ qualityTold (Told r) = r .quality
 qualityTold (Untold x) = 0
 
 module _ (base : ℕ) (s buffer : List ℕ) where
-  -- "a bridged string with `*` gets quality 15"
-  pub coasting-reads-worse : frameLength ≤ length buffer → (r : Reading) → Tells base s r true
-      → readFrame base (take frameLength (bridgeFilled Worse base s buffer)) ≡ Told (graded 15 (pendingOf r))
-  coasting-reads-worse enough r e = frame-reads-back base s Worse buffer enough r true e ∙ ap Told (worse r)
+  module _ (enough : frameLength ≤ length buffer) (r : Reading) where
+    -- "a bridged string with `*` gets quality 15"
+    pub coasting-reads-worse : Tells base s r true → readFrame base (take frameLength (bridgeFilled Worse base s buffer)) ≡ Told (graded 15 (pendingOf r))
+    coasting-reads-worse e = frame-reads-back base s Worse buffer enough r true e ∙ ap Told (worse r)
 
-  -- "a clock with a broken aerial looked locked": a frame that reads back with a better quality than 15 is of no clock that coasts
-  pub better-not-coasting : frameLength ≤ length buffer → (r : Reading) (coasting : Bool) → Tells base s r coasting
-      → (c : Reading) → readFrame base (take frameLength (bridgeFilled Worse base s buffer)) ≡ Told c → c .quality < 15 → coasting ≡ false
-  unfolding graded
-  better-not-coasting enough r false e c read better = refl
-  better-not-coasting enough r true e c read better =
-      let fifteen : c .quality ≡ 15 = ap qualityTold (sym read ∙ coasting-reads-worse enough r e) in
-      absurd (omega arith)
+    module _ (way : Coasting) (coasting : Bool) (tells : Tells base s r coasting) where
+      -- and else it goes over as before, with its own quality
+      pub else-reads-as-01 : (way ≡ Dropped) ⊎ (coasting ≡ false) → readFrame base (take frameLength (bridgeFilled way base s buffer)) ≡ Told (pendingOf r)
+      else-reads-as-01 h = frame-reads-back base s way buffer enough r coasting tells ∙ ap Told (go h)
+        where
+          go : (way ≡ Dropped) ⊎ (coasting ≡ false) → carriedBy way coasting r ≡ pendingOf r
+          go (inl e) = rw e (dropped r coasting)
+          go (inr e) = rw e (unmarked r way)
 
-  -- "unless the caller asks by name for the old way", which is 01's bridge, whatever string and buffer are
+      module _ (c : Reading) (read : readFrame base (take frameLength (bridgeFilled way base s buffer)) ≡ Told c) where
+        -- the quality that is read back, either way
+        pub quality-read-back : c .quality ≡ qualityBy way coasting (r .quality)
+        quality-read-back = ap qualityTold (sym read ∙ frame-reads-back base s way buffer enough r coasting tells) ∙ quality-carried r way coasting
+
+        -- it is 15 exactly where the mark stands and the way is L7's, or where the string says 15 of itself
+        pub fifteen-read-back : (c .quality ≡ 15) ↔ (((way ≡ Worse) × (coasting ≡ true)) ⊎ (r .quality ≡ 15))
+        fifteen-read-back = rw quality-read-back (fifteen-exactly way coasting (r .quality))
+
+        -- "a clock with a broken aerial looked locked": L7's way a frame with a better quality than 15 is of no clock that coasts
+        pub better-not-coasting : way ≡ Worse → c .quality < 15 → coasting ≡ false
+        better-not-coasting e better = go coasting (λ m. let fifteen = fifteen-read-back .1 (inl (e, m)) in omega arith)
+          where
+            go : (b : Bool) → (b ≡ true → ⊥) → b ≡ false
+            go false h = refl
+            go true h = absurd (h refl)
+
+  -- "unless the caller asks by name for the old way", which is the bridge before L7, whatever string and buffer are
   pub dropped-is-01 : bridgeFilled Dropped base s buffer ≡ filled01 base s buffer
   unfolding bridgeFilled filled01
   dropped-is-01 = go (whichever (readString base s))
@@ -52,7 +70,7 @@ module _ (base : ℕ) (s buffer : List ℕ) where
       go (Time r coasting) = rw (dropped r coasting)
       go (No x) = refl
 
-  -- a string without the mark goes over as 01 has it, whichever way
+  -- a string without the mark goes over as before, whichever way
   pub unmarked-is-01 : (way : Coasting) (r : Reading) → Tells base s r false → bridgeFilled way base s buffer ≡ filled01 base s buffer
   unfolding bridgeFilled filled01
   unmarked-is-01 way r e = rw (e, unmarked r way)

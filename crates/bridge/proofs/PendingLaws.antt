@@ -1,5 +1,5 @@
--- The reading that goes over to the frame: only its announcements are other, so it passes the same checks, and they are set
--- exactly in their windows.
+-- A reading with its announcements made pending bits, and all else as it was: it passes the same checks, and the bits are set exactly
+-- in their windows. What goes over differs from it by the quality alone (`CarriedLaws.else-as-01`).
 use mathlib.Core.Bool.{true}
 use mathlib.Core.Path.{_≡_, refl}
 use Prim.Native.Nat.{ℕ, _≤_}

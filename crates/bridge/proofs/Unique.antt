@@ -5,6 +5,7 @@ use contract.Lifetimes.{Lfts}
 use denote.Triple.Clauses.{AtExit}
 use denote.Ref.{now}
 use mathlib.Core.Path.{_≡_}
+use Rattle.bridge.specs.declared.Coasting.the-variants.{Worse}
 use Rattle.bridge.proofs.bridge.Reads as bridge-reads
 use Rattle.bridge.proofs.bridge.Kinds as bridge-kinds
 use Rattle.bridge.proofs.bridge_with.Reads as bridge-with-reads
@@ -26,3 +27,11 @@ pub either-way : (κs : Lfts 2) (a b : Dens κs bridge-with-kinds.ps) (x y : res
     → now (a .0) ≡ now (b .0) → now (a .1 .1 .0) ≡ now (b .1 .1 .0)
     → bridge-with-reads.Post κs a x e → bridge-with-reads.Post κs b y f → x ≡ y
 either-way κs a b x y e f s out p q = cc
+
+-- who names no way gets what `Coasting::Worse` gives, answer and bytes
+pub plain-is-worse : (κs : Lfts 2) (a : Dens κs bridge-kinds.ps) (b : Dens κs bridge-with-kinds.ps)
+    (x : resT bridge-kinds.r κs .Denot) (y : resT bridge-with-kinds.r κs .Denot)
+    (e : AtExit (endedOf 2 bridge-kinds.ps bridge-kinds.r) κs) (f : AtExit (endedOf 2 bridge-with-kinds.ps bridge-with-kinds.r) κs)
+    → now (a .0) ≡ now (b .0) → b .1 .0 ≡ Worse → now (a .1 .0) ≡ now (b .1 .1 .0)
+    → bridge-reads.Post κs a x e → bridge-with-reads.Post κs b y f → (x ≡ y) × (now (e .1 .0) ≡ now (f .1 .1 .0))
+plain-is-worse κs a b x y e f s way out p q = (cc, cc)

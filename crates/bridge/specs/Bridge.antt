@@ -39,8 +39,8 @@ pendingOf r =
       quality = r .quality;
     }
 
--- L7: "a bridged string with `*` gets quality 15", whatever its own, "unless the caller asks by name for the old way", which is
--- 01's "coasting dropped"
+-- L7: "a bridged string with `*` gets quality 15", whatever its own, "unless the caller asks by name for the old way", 01's "coasting
+-- dropped". Of a string's mark and its own quality:
 unfoldable pub qualityBy : Coasting → Bool → ℕ → ℕ
 qualityBy Worse coasting own = cond coasting 15 own
 qualityBy Dropped coasting own = own

@@ -1,5 +1,5 @@
--- The bridge as 01 has it, before L7: "the IEEE 1344 frame of its reading, coasting dropped". No contract cites it; the way that
--- drops the mark is proved to be it.
+-- The bridge as it stood before L7: 01's, as L1 and L3 amend it, "the IEEE 1344 frame of its reading, coasting dropped". No contract
+-- cites it; the way that drops the mark is proved to be it.
 use mathlib.Core.Bool.{cond}
 use mathlib.Core.List.{List, _++_}
 use Prim.Native.Nat.{ℕ}

@@ -4,6 +4,7 @@ use bridge::Coasting;
 ghost use mathlib.Core.Path.{_≡_};
 ghost use Rattle.vectors.specs.Payload.{namesWay, wayIn};
 
+// A payload without a second byte names none: a byte past the end is 0.
 pub(crate) fn names_way(payload: &[u8]) -> bool
     ensures { λ r. ⌜ r ≡ namesWay (now (payload .entry)) ⌝ }
 {

@@ -62,9 +62,8 @@ fn write_all_by(op: u8, payload: &[u8], buffer: &mut [u8]) -> Written {
 // Where a payload says how many bytes are lent.
 fn room_in(op: u8, payload: &[u8]) -> u8 {
     match op {
-        10 => byte(payload, 0),
+        10 | 16 => byte(payload, 0),
         15 => byte(payload, 19),
-        16 => byte(payload, 0),
         _ => byte(payload, 14),
     }
 }

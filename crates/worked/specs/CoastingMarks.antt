@@ -2,8 +2,8 @@
 use mathlib.Core.Bool.{false}
 use mathlib.Core.List.{List, [], _∷_, _++_}
 use Prim.Native.Nat.{ℕ}
-use lib.ListN.{take}
-use Rattle.bridge.specs.declared.Coasting.the-variants.{Worse, Dropped}
+use lib.ListN.{take, replicate}
+use Rattle.bridge.specs.declared.Coasting.the-variants.{Dropped}
 use Rattle.worked.specs.Questions.{Case, gives, pulses, bridged, bridgedWith, told, wrote, wroteNone}
 use Rattle.worked.specs.Given.{plus, leapDay, frame6, frameWith, turned, meinbergAt, meinberg6, erlangen6, hourAhead, noFlags, sevens}
 
@@ -27,8 +27,15 @@ longLocked = erlangen6 hourAhead noFlags
 abbrev longCoasting : List ℕ
 longCoasting = erlangen6 hourAhead (32 ∷ 42 ∷ 32 ∷ 32 ∷ 32 ∷ 32 ∷ 32 ∷ [])
 
+abbrev longFailed : List ℕ
+longFailed = erlangen6 hourAhead (35 ∷ 32 ∷ 32 ∷ 32 ∷ 32 ∷ 32 ∷ 32 ∷ [])
+
 abbrev longBoth : List ℕ
 longBoth = erlangen6 hourAhead (35 ∷ 42 ∷ 32 ∷ 32 ∷ 32 ∷ 32 ∷ 32 ∷ [])
+
+-- and locked, with a `*` at each of the position bytes, where it is no mark
+abbrev starredPosition : List ℕ
+starredPosition = take 41 longLocked ++ replicate 26 42 ++ (3 ∷ [])
 
 -- "71-74 quality 1 2 4 8": all set are 15, four ones more, so that the parity stays
 abbrev fifteen : List ℕ
@@ -52,11 +59,10 @@ aprilOnes =
 abbrev wrongWeekday : List ℕ
 wrongWeekday = meinbergAt 29 2 24 2 12 34 56 (32 ∷ 42 ∷ 32 ∷ 32 ∷ [])
 
--- one string over the bridge, with nothing named and with each way: the frame of the new way, and that of the old
+-- one string over the bridge, with nothing named, which is the new way, and with the mark dropped by name: the two frames
 abbrev eitherWay : List ℕ → List ℕ → List ℕ → List Case
 eitherWay s worse dropped =
     gives (bridged s (sevens 101)) (wrote 100 (worse ++ sevens 1))
-    ∷ gives (bridgedWith Worse s (sevens 101)) (wrote 100 (worse ++ sevens 1))
     ∷ gives (bridgedWith Dropped s (sevens 101)) (wrote 100 (dropped ++ sevens 1))
     ∷ []
 
@@ -64,7 +70,6 @@ eitherWay s worse dropped =
 abbrev refusedEitherWay : List ℕ → ℕ → ℕ → ℕ → List Case
 refusedEitherWay s room code place =
     gives (bridged s (sevens room)) (wroteNone code place (sevens room))
-    ∷ gives (bridgedWith Worse s (sevens room)) (wroteNone code place (sevens room))
     ∷ gives (bridgedWith Dropped s (sevens room)) (wroteNone code place (sevens room))
     ∷ []
 
@@ -77,9 +82,11 @@ coastingMarks =
     ++ eitherWay both frame15 frame15
     ++ eitherWay longBoth frame15 frame15
     ++ eitherWay failed frame15 frame15
+    ++ eitherWay longFailed frame15 frame15
     -- without the mark nothing changes
     ++ eitherWay locked frame6 frame6
     ++ eitherWay longLocked frame6 frame6
+    ++ eitherWay starredPosition frame6 frame6
     -- what is pending goes over beside it
     ++ eitherWay aprilCoasting (frameWith (aprilOnes ++ fifteen)) (frameWith aprilOnes)
     -- "Refusals: none": the string's own, and the room's before it, are the same whichever way

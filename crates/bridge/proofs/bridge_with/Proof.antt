@@ -1,4 +1,4 @@
--- `bridge::bridge_with` meets its contract: the writer of the frame, which could refuse a reading, refuses none that a string says.
+-- `bridge::bridge_with` meets its contract: the writer of the frame, which could refuse a reading, refuses none that goes over.
 -- Assumes nothing.
 use borrow.Author.Needs.{needs}
 use mathlib.Core.Bool.{Bool}
