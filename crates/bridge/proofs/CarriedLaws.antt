@@ -65,6 +65,13 @@ fifteen-exactly Dropped coasting own = (λ e. inr e, own-said)
     own-said (inl p) = never (ap isWorse (p .0))
     own-said (inr e) = e
 
+-- whichever way, no frame says better of its clock than the string does
+pub never-better : (way : Coasting) (coasting : Bool) (own : ℕ) → own ≤ 15 → own ≤ qualityBy way coasting own
+unfolding qualityBy
+never-better Worse true own h = h
+never-better Worse false own h = omega arith
+never-better Dropped coasting own h = omega arith
+
 -- ---- the checks that every writer shares
 
 -- UTC does not look at the quality

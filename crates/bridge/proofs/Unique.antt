@@ -1,5 +1,5 @@
--- Any two answers that the contract of the bridge allows coincide, and so do the bytes that it leaves; and the answer is the same
--- whichever way is named. The lines speak of the generated contracts themselves.
+-- Any two answers that a contract of the bridge allows coincide, and so do the bytes that it leaves; the answer is the same whichever
+-- way is named, and naming none is naming `Coasting::Worse`. The lines speak of the generated contracts themselves.
 use borrow.Fn.Kinds.{Dens, resT, endedOf}
 use contract.Lifetimes.{Lfts}
 use denote.Triple.Clauses.{AtExit}
