@@ -1,5 +1,6 @@
 """The bridge: reads a clock string, whichever of the two it is, and writes the IEEE 1344 frame of its
-reading. L7: a coasting clock looks failed there, unless the caller asks for the mark to be dropped."""
+reading. L7: a coasting clock looks failed there, unless the caller asks for the mark to be dropped.
+L9: a string whose offset is an odd number of quarter hours has no frame."""
 
 import enum
 from typing import Union
@@ -29,7 +30,8 @@ def bridged(told: ToldString, way: Coasting) -> Reading:
 
 
 def bridge_with(string: bytes, way: Coasting, output: bytearray) -> Union[int, Refusal]:
-    """Output length first, then the string's own refusal, both whatever the way; then the frame."""
+    """Output length first, then the string's own refusal, then the frame writer's, which can only be
+    that it does not carry the offset; all whatever the way."""
     if len(output) < ieee1344.LENGTH:
         return Refusal(1)
     answer = clock_string.read(string)

@@ -6,16 +6,16 @@ from datetime import datetime
 from itertools import product
 from typing import Iterator, List
 
-from case_parts import (DROPPED, PLAIN, WORSE, bridge_case, bridge_with_case, case, local,
-                        raw_erlangen, raw_meinberg)
+from case_parts import (DROPPED, PLAIN, SUMMER, WINTER, WORSE, bridge_case, bridge_with_case, case,
+                        local, raw_erlangen, raw_meinberg)
 
 # UTC minute and second, with the zone in which Uni Erlangen's letters are tried: an ordinary one, one in
 # both windows, a leap second, and a local minute 59 before its window, at its begin and at its end.
-MOMENTS = ((datetime(2024, 2, 29, 11, 34), 56, 11), (datetime(2016, 12, 31, 23, 59), 30, 2),
-           (datetime(2016, 12, 31, 23, 59), 60, 0), (datetime(2024, 3, 31, 0, 59), 0, -24),
-           (datetime(2024, 3, 31, 0, 59), 1, 4), (datetime(2024, 3, 31, 0, 59), 59, 28))
-MEINBERG_ZONES = {"U": 0, " ": 2, "S": 4}
-OFFSETS = (0, 2, 4, 11, -7, -24, 28)
+MOMENTS = ((datetime(2024, 2, 29, 11, 34), 56, 22), (datetime(2016, 12, 31, 23, 59), 30, WINTER),
+           (datetime(2016, 12, 31, 23, 59), 60, 0), (datetime(2024, 3, 31, 0, 59), 0, -48),
+           (datetime(2024, 3, 31, 0, 59), 1, SUMMER), (datetime(2024, 3, 31, 0, 59), 59, 56))
+MEINBERG_ZONES = {"U": 0, " ": WINTER, "S": SUMMER}
+OFFSETS = (0, WINTER, SUMMER, 22, -14, -48, 56)
 # Of either string: times, dates, and a second 60 where none is allowed.
 FAULTS = ({"hour": 24}, {"minute": 60}, {"second": 61}, {"day": 0}, {"month": 13}, {"second": 60})
 LENGTHS = (0, 1, 2, 30, 31, 33, 34, 66, 67, 69, 70, 100)
@@ -51,7 +51,7 @@ def zones() -> Iterator[bytes]:
     """Both announcements in other zones, of either quality, with the mark and without."""
     for utc, second, _ in MOMENTS:
         for offset, quality, coasting in product(OFFSETS, (0, 15), (False, True)):
-            reading = local(utc, offset, second, summer=offset == 4, leap=True, change=True,
+            reading = local(utc, offset, second, summer=offset == SUMMER, leap=True, change=True,
                             quality=quality)
             yield from each_way(100, raw_erlangen(reading, coasting=coasting))
 
@@ -64,7 +64,7 @@ def faulty(coasting: bool) -> List[bytes]:
         strings += [make(weekday=weekday, coasting=coasting) for weekday in (0, 3)]
         strings += [b"\x00" + make(coasting=coasting)[1:], make(coasting=coasting)[:-1] + b"\x00"]
     strings += [raw_erlangen(offset=offset, coasting=coasting)
-                for offset in ("-00:00", "+14:30", "+01:15")]
+                for offset in ("-00:00", "+14:15", "+01:20")]
     strings += [raw_erlangen(letters=" %s    L" % ("*" if coasting else " ")),
                 raw_erlangen(position=b"\x7f" * 26, coasting=coasting)]
     return strings

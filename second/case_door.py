@@ -5,15 +5,15 @@ kind is not that of the string after it; and ops that are none."""
 from datetime import datetime
 from typing import Iterator, List
 
-from case_parts import (DROPPED, PLAIN, bridge_case, bridge_with_case, case, local, raw_erlangen,
-                        raw_meinberg)
+from case_parts import (DROPPED, PLAIN, SUMMER, bridge_case, bridge_with_case, case, local,
+                        raw_erlangen, raw_meinberg)
 
 LEAP_SECOND = local(datetime(2016, 12, 31, 23, 59), 0, 60, leap=True)
 SHORT = (raw_meinberg(), raw_meinberg(LEAP_SECOND),
-         raw_meinberg(PLAIN._replace(offset=4, change=True, quality=15), coasting=True))
+         raw_meinberg(PLAIN._replace(offset=SUMMER, change=True, quality=15), coasting=True))
 # The last has the text of a Meinberg string for its position part.
 LONG = (raw_erlangen(), raw_erlangen(LEAP_SECOND),
-        raw_erlangen(PLAIN._replace(offset=-7, change=True, quality=15), coasting=True),
+        raw_erlangen(PLAIN._replace(offset=-14, change=True, quality=15), coasting=True),
         raw_erlangen(position=raw_meinberg()[1:27]))
 REFUSED = (
     raw_meinberg(PLAIN._replace(hour=24)), raw_meinberg(PLAIN._replace(month=13)),

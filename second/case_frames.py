@@ -5,8 +5,8 @@ from datetime import datetime, timedelta
 from typing import Iterator
 
 import ieee1344
-from case_parts import (PLAIN, REAL_LEAP_DAYS, case, local, mend_frame, raw_frame, with_pulses,
-                        write_case)
+from case_parts import (PLAIN, REAL_LEAP_DAYS, SUMMER, WINTER, case, local, mend_frame, raw_frame,
+                        with_pulses, write_case)
 from layout import put_field
 from reading import Reading
 
@@ -15,9 +15,10 @@ ALWAYS_ZERO = (5, 14, 18, 24, 27, 28, 34, 42, 43, 44, 45, 46, 47, 48, 54, 76, 77
 
 
 def both(reading: Reading, room: int = 100) -> Iterator[bytes]:
-    """The reading written, and its raw frame read."""
+    """The reading written, and its raw frame read, where it has one."""
     yield write_case(7, reading, 0, room)
-    yield case(3, raw_frame(reading))
+    if not ieee1344.cannot_carry(reading):
+        yield case(3, raw_frame(reading))
 
 
 def year_ends() -> Iterator[bytes]:
@@ -25,16 +26,16 @@ def year_ends() -> Iterator[bytes]:
     for year in range(2000, 2100):
         moments = [Reading(year, 12, 31, 23, 59, second, 0, False, second < 60, False, 0)
                    for second in (58, 59, 60)]
-        moments += [Reading(year, 1, 1, 0, 0, 0, 2, False, False, False, 15),
-                    Reading(year, 1, 1, 0, 59, 60, 2, False, False, False, 0),
-                    Reading(year, 7, 1, 1, 59, 60, 4, True, False, False, 0),
-                    Reading(year, 2, 28, 23, 59, 59, 2, False, False, False, year % 16)]
+        moments += [Reading(year, 1, 1, 0, 0, 0, WINTER, False, False, False, 15),
+                    Reading(year, 1, 1, 0, 59, 60, WINTER, False, False, False, 0),
+                    Reading(year, 7, 1, 1, 59, 60, SUMMER, True, False, False, 0),
+                    Reading(year, 2, 28, 23, 59, 59, WINTER, False, False, False, year % 16)]
         if year % 4 == 0:
-            moments.append(Reading(year, 2, 29, 23, 59, 59, -7, False, False, False, 1))
-        moments.append(Reading(year, 3, 1, 0, 0, 0, 11, True, False, True, 0))
+            moments.append(Reading(year, 2, 29, 23, 59, 59, -14, False, False, False, 1))
+        moments.append(Reading(year, 3, 1, 0, 0, 0, 22, True, False, True, 0))
         for reading in moments:
             yield from both(reading)
-        yield write_case(7, Reading(year, 2, 29, 0, 0, 0, 2, False, False, False, 0), 0, 100)
+        yield write_case(7, Reading(year, 2, 29, 0, 0, 0, WINTER, False, False, False, 0), 0, 100)
         for day in (0, 1, 59, 60, 61, 365, 366, 367, 399):
             yield case(3, raw_frame(PLAIN._replace(year=year), day_of_year=day))
 
@@ -44,21 +45,21 @@ def every_day() -> Iterator[bytes]:
         at = datetime(year, 1, 1, 6, 7)
         while at.year == year:
             reading = Reading(year, at.month, at.day, at.timetuple().tm_yday % 24, at.day % 60,
-                              at.month, 2, False, False, False, 0)
+                              at.month, WINTER, False, False, False, 0)
             yield from both(reading, 101)
             at += timedelta(days=1)
 
 
 def offsets() -> Iterator[bytes]:
     """Every offset as written, and every sign, hours, half hour as read; case 10."""
-    for offset in list(range(-25, 30)) + [-128, -127, -26, 30, 127]:
+    for offset in [*range(-50, 59), -128, -127, 126, 127]:
         yield write_case(7, PLAIN._replace(offset=offset), 0, 100)
     for minus in (0, 1):
         for hours in range(16):
             for half in (0, 1):
                 yield case(3, raw_frame(minus=minus, offset_hours=hours, offset_half_hour=half))
     for year, month, day in REAL_LEAP_DAYS:
-        for offset in range(-24, 29):
+        for offset in range(-48, 57):
             for second in (59, 60):
                 yield from both(local(datetime(year, month, day, 23, 59), offset, second,
                                       summer=offset % 3 == 0, leap=second == 59))
@@ -84,7 +85,7 @@ def times() -> Iterator[bytes]:
     yield case(3, raw_frame(minus=0, offset_hours=12, offset_half_hour=1))
     for clock in ((0, 0, 0), (0, 0, 59), (1, 0, 0), (23, 59, 59), (0, 59, 60), (23, 59, 60)):
         yield case(3, raw_frame(PLAIN._replace(hour=clock[0], minute=clock[1], second=clock[2])))
-        yield from both(Reading(2017, 1, 1, clock[0], clock[1], clock[2], 2, False, False, False, 0))
+        yield from both(Reading(2017, 1, 1, *clock, WINTER, False, False, False, 0))
         yield from both(Reading(2016, 12, 31, *clock, 0, False, False, False, 0))
 
 
@@ -126,8 +127,8 @@ def refused_readings() -> Iterator[bytes]:
                     {"second": 255}, {"minute": 60}, {"hour": 24}, {"hour": 255}, {"day": 0},
                     {"day": 30}, {"day": 255}, {"month": 0}, {"month": 13}, {"month": 255},
                     {"year": 1999}, {"year": 2100}, {"year": 0}, {"year": 65535},
-                    {"offset": 29}, {"offset": -25}, {"offset": -128}, {"offset": 127},
-                    {"offset": 29, "second": 60}, {"offset": 29, "second": 61},
+                    {"offset": 57}, {"offset": -49}, {"offset": -128}, {"offset": 127},
+                    {"offset": 57, "second": 60}, {"offset": 57, "second": 61},
                     {"quality": 14}, {"year": 2023}, {"leap": True}, {"change": True}):
         for room in (0, 99, 100, 101, 255):
             yield write_case(7, PLAIN._replace(**changed), room, room)
@@ -136,7 +137,7 @@ def refused_readings() -> Iterator[bytes]:
 
 def changes() -> Iterator[bytes]:
     """Every one-byte change of good frames, and of short ones."""
-    leap = local(datetime(2016, 12, 31, 23, 59), 2, 60)
+    leap = local(datetime(2016, 12, 31, 23, 59), WINTER, 60)
     for reading in (PLAIN, leap, PLAIN._replace(year=2000, month=1, day=1, offset=0, quality=15)):
         yield case(22, raw_frame(reading))
     yield case(22, raw_frame()[:4])

@@ -4,8 +4,8 @@ lengths, heads, every refusal, rooms 59, 60 and 61, every one-byte change."""
 from datetime import datetime, timedelta
 from typing import Iterator
 
-from case_parts import (PLAIN, REAL_LEAP_DAYS, case, german_minute, local, mend_minute, raw_minute,
-                        with_pulses, write_case)
+from case_parts import (PLAIN, REAL_LEAP_DAYS, SUMMER, WINTER, case, german_minute, local,
+                        mend_minute, raw_minute, with_pulses, write_case)
 from layout import put_field
 from reading import Reading
 
@@ -33,11 +33,11 @@ def leap_hours() -> Iterator[bytes]:
                     yield from both(reading, before % 64)
     for month in range(1, 13):
         for day in (1, 2, 30):
-            reading = local(datetime(2023, month, day if month != 2 else 27), 2, leap=True)
+            reading = local(datetime(2023, month, day if month != 2 else 27), WINTER, leap=True)
             yield from both(reading)
     for year in range(2000, 2100):
-        yield from both(local(datetime(year, 1, 1), 2, leap=True), year)
-        yield from both(local(datetime(year, 7, 1), 4, leap=True, summer=True), 32767)
+        yield from both(local(datetime(year, 1, 1), WINTER, leap=True), year)
+        yield from both(local(datetime(year, 7, 1), SUMMER, leap=True, summer=True), 32767)
 
 
 def changes_of_2024() -> Iterator[bytes]:
@@ -91,7 +91,7 @@ def values() -> Iterator[bytes]:
 def refused_minutes() -> Iterator[bytes]:
     """Lengths, fixed marks, digits over nine, parities, alone and together, in both lengths."""
     short = raw_minute(BASE)
-    long = raw_minute(local(datetime(2017, 1, 1), 2, leap=True), 77)
+    long = raw_minute(local(datetime(2017, 1, 1), WINTER, leap=True), 77)
     for length in (0, 1, 58, 59, 62, 100, 120):
         yield case(4, (short * 2)[:length])
     for marks in (short, long):
@@ -120,18 +120,18 @@ def refused_minutes() -> Iterator[bytes]:
 
 def writers() -> Iterator[bytes]:
     """Every refusal of the writer at rooms 0, 59, 60, 61, 62 and 255, long minutes too."""
-    long = local(datetime(2017, 1, 1), 2, leap=True)
-    summer_long = local(datetime(2012, 7, 1), 4, leap=True, summer=True)
-    leap_second = local(datetime(2016, 12, 31, 23, 59), 2, 60, leap=True)
+    long = local(datetime(2017, 1, 1), WINTER, leap=True)
+    summer_long = local(datetime(2012, 7, 1), SUMMER, leap=True, summer=True)
+    leap_second = local(datetime(2016, 12, 31, 23, 59), WINTER, 60, leap=True)
     faulty = [BASE, long, summer_long, leap_second, leap_second._replace(offset=0),
-              long._replace(leap=False), long._replace(offset=0), long._replace(offset=4),
+              long._replace(leap=False), long._replace(offset=0), long._replace(offset=SUMMER),
               long._replace(quality=1), long._replace(quality=16), long._replace(second=1),
-              long._replace(second=60), long._replace(change=True), long._replace(offset=29),
+              long._replace(second=60), long._replace(change=True), long._replace(offset=57),
               long._replace(month=13), summer_long._replace(summer=False), PLAIN,
               BASE._replace(quality=15), BASE._replace(quality=255), BASE._replace(second=60),
-              BASE._replace(second=61), BASE._replace(offset=4), BASE._replace(summer=True),
-              BASE._replace(offset=4, summer=True), BASE._replace(offset=0),
-              BASE._replace(offset=-25), BASE._replace(offset=-128), BASE._replace(day=30),
+              BASE._replace(second=61), BASE._replace(offset=SUMMER), BASE._replace(summer=True),
+              BASE._replace(offset=SUMMER, summer=True), BASE._replace(offset=0),
+              BASE._replace(offset=-49), BASE._replace(offset=-128), BASE._replace(day=30),
               BASE._replace(month=0, offset=99), BASE._replace(year=1999),
               BASE._replace(year=2100), BASE._replace(hour=24), BASE._replace(minute=60)]
     for reading in faulty:
@@ -144,10 +144,10 @@ def writers() -> Iterator[bytes]:
 def changes() -> Iterator[bytes]:
     """Every one-byte change of good minutes of both lengths."""
     yield case(23, raw_minute(BASE))
-    yield case(23, raw_minute(local(datetime(2017, 1, 1), 2, leap=True), 21845))
-    yield case(23, raw_minute(local(datetime(2015, 7, 1), 4, leap=True, summer=True)))
-    yield case(23, raw_minute(local(datetime(2016, 12, 31, 23, 59), 2, leap=True)))
-    yield case(23, raw_minute(local(datetime(2017, 1, 1), 2)))
+    yield case(23, raw_minute(local(datetime(2017, 1, 1), WINTER, leap=True), 21845))
+    yield case(23, raw_minute(local(datetime(2015, 7, 1), SUMMER, leap=True, summer=True)))
+    yield case(23, raw_minute(local(datetime(2016, 12, 31, 23, 59), WINTER, leap=True)))
+    yield case(23, raw_minute(local(datetime(2017, 1, 1), WINTER)))
     yield case(23, raw_minute(BASE)[:3])
     yield case(23, b"")
 

@@ -5,16 +5,17 @@ ends."""
 from datetime import datetime, timedelta
 from typing import Iterator, List, Tuple
 
+import case_frames
 from case_minutes import both
-from case_parts import (POSITION, bridge_case, case, german_minute, local, raw_erlangen, raw_frame,
-                        raw_meinberg, raw_minute, reading_bytes, write_case)
+from case_parts import (MEINBERG_OFFSETS, POSITION, SUMMER, WINTER, bridge_case, case, german_minute,
+                        local, raw_erlangen, raw_frame, raw_meinberg, raw_minute, reading_bytes,
+                        write_case)
 from case_streams import minutes_from
 from reading import HIGHEST_OFFSET, LOWEST_OFFSET, Reading
 
 YEARS = (2023, 2024)
 OFFSETS = range(LOWEST_OFFSET, HIGHEST_OFFSET + 1)
-FEW_OFFSETS = (0, 2, 4, 11, -7, -24, 28)
-MEINBERG_OFFSETS = (0, 2, 4)
+FEW_OFFSETS = (0, WINTER, SUMMER, 22, 23, -14, -48, 56)
 MINUTE = timedelta(minutes=1)
 HOUR = timedelta(hours=1)
 DAY = timedelta(days=1)
@@ -38,12 +39,11 @@ def told(reading: Reading) -> Iterator[bytes]:
 
 
 def written(reading: Reading) -> Iterator[bytes]:
-    """Written in every format that carries it, and read as a frame."""
+    """Written in every format but DCF77's, Meinberg's where it has the zone; and read as a frame."""
     if reading.offset in MEINBERG_OFFSETS:
         yield write_case(5, reading, 0, 32)
     yield write_case(6, reading, 0, 68, POSITION)
-    yield write_case(7, reading, 0, 100)
-    yield case(3, raw_frame(reading))
+    yield from case_frames.both(reading)
 
 
 def around(first: datetime) -> Iterator[Tuple[datetime, int]]:
@@ -65,14 +65,15 @@ def month_ends() -> Iterator[bytes]:
     for first in firsts():
         for utc, second in around(first):
             for offset in OFFSETS:
-                yield from told(local(utc, offset, second, summer=offset == 4, leap=True))
+                yield from told(local(utc, offset, second, summer=offset == SUMMER, leap=True))
             for offset in FEW_OFFSETS:
-                reading = local(utc, offset, second, summer=offset == 4, leap=first.month % 2 == 0)
+                reading = local(utc, offset, second, summer=offset == SUMMER,
+                                leap=first.month % 2 == 0)
                 yield from told(reading._replace(leap=False))
                 yield from written(reading)
         for utc, second in edges(first):
             for offset in FEW_OFFSETS:
-                yield from told(local(utc, offset, second, summer=offset == 4, leap=True))
+                yield from told(local(utc, offset, second, summer=offset == SUMMER, leap=True))
 
 
 def sixty_elsewhere() -> Iterator[bytes]:
@@ -82,7 +83,7 @@ def sixty_elsewhere() -> Iterator[bytes]:
         last = first - MINUTE
         for utc in (last - DAY, last + DAY, last - HOUR, last + HOUR, last - MINUTE, first):
             for offset in FEW_OFFSETS:
-                yield from told(local(utc, offset, 60, summer=offset == 4))
+                yield from told(local(utc, offset, 60, summer=offset == SUMMER))
         for offset in OFFSETS:
             yield from told(local(last, 0, 60)._replace(offset=offset))
     for year in range(2000, 2100):
@@ -110,7 +111,7 @@ def books() -> Iterator[bytes]:
         book = bytearray()
         for utc, second in (*around(first), (first - MINUTE - DAY, 60)):
             for offset in MEINBERG_OFFSETS:
-                reading = local(utc, offset, second, summer=offset == 4, leap=True)
+                reading = local(utc, offset, second, summer=offset == SUMMER, leap=True)
                 book += b"\x01" + raw_meinberg(reading) + b"\x02" + raw_erlangen(reading)
                 book += b"\x03" + raw_frame(reading)
         for summer in (True, False):

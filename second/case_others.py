@@ -4,15 +4,16 @@ import random
 from datetime import datetime, timedelta
 from typing import Iterator, List, Tuple
 
-from case_parts import (LARGEST_PAYLOAD, PLAIN, POSITION, REAL_LEAP_DAYS, bridge_case, case, local,
-                        mend_frame, mend_minute, raw_erlangen, raw_frame, raw_meinberg, raw_minute,
-                        reading_bytes, with_pulses)
+from case_parts import (LARGEST_PAYLOAD, MEINBERG_OFFSETS, PLAIN, POSITION, REAL_LEAP_DAYS, SUMMER,
+                        WINTER, bridge_case, case, local, mend_frame, mend_minute, raw_erlangen,
+                        raw_frame, raw_meinberg, raw_minute, reading_bytes, with_pulses)
 from reading import Reading
 
 EXTREMES = {"year": (0, 1, 1999, 2000, 2099, 2100, 9999, 10000, 32768, 65535),
             "month": (0, 1, 2, 12, 13, 127, 128, 255), "day": (0, 1, 28, 29, 30, 31, 32, 255),
-            "hour": (0, 23, 24, 128, 255), "minute": (0, 29, 30, 59, 60, 255),
-            "second": (0, 1, 59, 60, 61, 255), "offset": (-128, -25, -24, -1, 0, 1, 28, 29, 127),
+            "hour": (0, 23, 24, 128, 255), "minute": (0, 14, 15, 29, 30, 59, 60, 255),
+            "second": (0, 1, 59, 60, 61, 255),
+            "offset": (-128, -49, -48, -47, -1, 0, 1, 55, 56, 57, 127),
             "summer": (0, 1), "leap": (0, 1), "change": (0, 1), "quality": (0, 1, 14, 15, 16, 255)}
 
 
@@ -23,8 +24,8 @@ def stamps() -> Iterator[bytes]:
 
     for start in (datetime(2000, 1, 1), datetime(2099, 12, 31, 23, 59), datetime(2016, 12, 31, 23,
                   59), datetime(2017, 1, 1), datetime(2024, 2, 29), datetime(2050, 6, 30, 23, 59)):
-        for offset in range(-26, 31):
-            for shift in (-30, -1, 0, 1, 30):
+        for offset in range(-50, 59):
+            for shift in (-15, -1, 0, 1, 15):
                 here = local(start + timedelta(minutes=shift), offset)
                 for second in (0, 59, 60):
                     yield at(here._replace(second=second))
@@ -42,7 +43,7 @@ def stamps() -> Iterator[bytes]:
     for _ in range(3000):
         yield at(Reading(dice.randrange(1999, 2101), dice.randrange(1, 13), dice.randrange(1, 32),
                          dice.randrange(24), dice.randrange(60), dice.randrange(60),
-                         dice.randrange(-24, 29), *(dice.random() < 0.5 for _ in range(3)),
+                         dice.randrange(-48, 57), *(dice.random() < 0.5 for _ in range(3)),
                          dice.randrange(16)))
     for _ in range(1000):
         yield case(9, bytes(dice.randrange(256) for _ in range(12)))
@@ -55,11 +56,11 @@ def bridge_moments() -> List[Reading]:
     moments = []
     for year, month, day in REAL_LEAP_DAYS[2:] + ((2023, 6, 29), (2023, 3, 31)):
         for minute in (57, 58, 59):
-            for offset in (0, 2, 4, 11, -7):
+            for offset in (*MEINBERG_OFFSETS, 22, -14):
                 utc = datetime(year, month, day, 23, minute)
                 for second in (0, 1, 30, 59, 60):
-                    moments.append(local(utc, offset, second, summer=offset == 4))
-                moments.append(local(utc + timedelta(minutes=3), offset, 0, summer=offset == 4))
+                    moments.append(local(utc, offset, second, summer=offset == SUMMER))
+                moments.append(local(utc + timedelta(minutes=3), offset, 0, summer=offset == SUMMER))
     return moments
 
 
@@ -68,11 +69,11 @@ def bridges() -> Iterator[bytes]:
     for reading in bridge_moments():
         for leap, change in ((False, False), (True, False), (False, True), (True, True)):
             said = reading._replace(leap=leap, change=change)
-            if not (leap and change) and said.offset in (0, 2, 4):
+            if not (leap and change) and said.offset in MEINBERG_OFFSETS:
                 yield bridge_case(100, raw_meinberg(said))
             yield bridge_case(101, raw_erlangen(said, coasting=change))
-    for offset in range(-25, 30):
-        yield bridge_case(100, raw_erlangen(PLAIN._replace(offset=offset, summer=offset > 9)))
+    for offset in range(-50, 59):
+        yield bridge_case(100, raw_erlangen(PLAIN._replace(offset=offset, summer=offset > 18)))
     strings = [raw_meinberg(PLAIN._replace(quality=15), coasting=True), raw_meinberg(),
                raw_erlangen(), b""]
     strings += [raw_meinberg(weekday=weekday) for weekday in (0, 3, 4, 9)]
@@ -113,10 +114,10 @@ def two_faults() -> List[Tuple[int, bytes]]:
 def book_records() -> List[bytes]:
     """Whole records of every kind: accepted, refused by every code, with a refused stamp, and with
     two faults."""
-    long = local(datetime(2017, 1, 1), 2, leap=True)
-    early = Reading(2000, 1, 1, 0, 30, 0, 2, False, False, False, 0)  # case 9
-    late = Reading(2099, 12, 31, 23, 0, 0, -24, False, False, False, 0)
-    first_leap = Reading(2000, 1, 1, 0, 59, 60, 2, False, False, False, 0)
+    long = local(datetime(2017, 1, 1), WINTER, leap=True)
+    early = Reading(2000, 1, 1, 0, 30, 0, WINTER, False, False, False, 0)  # case 9
+    late = Reading(2099, 12, 31, 23, 0, 0, -48, False, False, False, 0)
+    first_leap = Reading(2000, 1, 1, 0, 59, 60, WINTER, False, False, False, 0)
     frame, minute = raw_frame(), raw_minute(PLAIN)
     bodies = [(1, raw_meinberg(reading)) for reading in (
         PLAIN, early, first_leap, PLAIN._replace(month=13), PLAIN._replace(second=60))]

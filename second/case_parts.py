@@ -3,16 +3,18 @@ and raw strings, frames and minutes that are built from any field values without
 are good."""
 
 import struct
-from datetime import date, datetime, timedelta
+from datetime import date, datetime
 from typing import Iterable, NamedTuple
 
 import dcf77
 import ieee1344
 from layout import ones_are_odd
-from reading import Reading
+from reading import ONE_MINUTE, QUARTER_HOUR, Reading
 
 POSITION = b" 51.9826N    9.2258E  176m"
-PLAIN = Reading(2024, 2, 29, 12, 34, 56, 2, False, False, False, 0)  # case 6 of document 01
+WINTER, SUMMER = 4, 8  # Central Europe's offsets, in quarter hours
+MEINBERG_OFFSETS = (0, WINTER, SUMMER)
+PLAIN = Reading(2024, 2, 29, 12, 34, 56, WINTER, False, False, False, 0)  # case 6 of document 01
 LARGEST_PAYLOAD = 4000
 WORSE, DROPPED = 1, 2  # the ways of op 16
 REAL_LEAP_DAYS = ((2005, 12, 31), (2008, 12, 31), (2016, 12, 31), (2012, 6, 30), (2015, 6, 30))
@@ -83,7 +85,7 @@ def bridge_with_case(room: int, way: int, string: bytes) -> bytes:
 
 def local(utc: datetime, offset: int, second: int = 0, **flags) -> Reading:
     """The reading of a UTC minute at an offset; flags and quality as given, else none."""
-    at = utc + timedelta(minutes=30 * offset)
+    at = utc + offset * QUARTER_HOUR
     return Reading(at.year, at.month, at.day, at.hour, at.minute, second, offset,
                    flags.get("summer", False), flags.get("leap", False),
                    flags.get("change", False), flags.get("quality", 0))
@@ -102,7 +104,7 @@ def raw_meinberg(reading: Reading = PLAIN, weekday: int = -1, letters: str = "",
     """A Meinberg string of any two-digit values; letters replace uvxy."""
     if weekday < 0:
         weekday = weekday_digit(*reading[:3])
-    zone = {0: "U", 4: "S"}.get(reading.offset, " ")
+    zone = {0: "U", SUMMER: "S"}.get(reading.offset, " ")
     announced = "A" if reading.leap else "!" if reading.change else " "
     letters = letters or ("#" if reading.quality else " ") + (
         "*" if coasting else " ") + zone + announced
@@ -116,8 +118,8 @@ def raw_erlangen(reading: Reading = PLAIN, weekday: int = -1, offset: str = "",
     """A Uni Erlangen string of any two-digit values; offset and letters replace voo:oo, acdfg i."""
     if weekday < 0:
         weekday = weekday_digit(*reading[:3])
-    size = abs(reading.offset)
-    offset = offset or "%s%02d:%02d" % ("-" if reading.offset < 0 else "+", size // 2, size % 2 * 30)
+    size = divmod(abs(reading.offset) * QUARTER_HOUR // ONE_MINUTE, 60)
+    offset = offset or "%s%02d:%02d" % ("-" if reading.offset < 0 else "+", *size)
     letters = letters or "".join(letter if wanted else " " for letter, wanted in (
         ("#", reading.quality), ("*", coasting), ("S", reading.summer), ("!", reading.change),
         ("A", reading.leap), (" ", True), ("L", reading.second == 60)))
@@ -127,7 +129,8 @@ def raw_erlangen(reading: Reading = PLAIN, weekday: int = -1, offset: str = "",
 
 
 def said_in_frame(reading: Reading = PLAIN) -> dict:
-    """Field values of a frame; an impossible date is taken as day 0 of the year."""
+    """Field values of a frame; an impossible date is taken as day 0 of the year, and of an odd number
+    of quarter hours the last is left out."""
     try:
         return ieee1344.said_of(reading)
     except ValueError:
@@ -182,4 +185,4 @@ def raw_minute(reading: Reading = PLAIN, head: int = 0, length: int = 0,
 
 def german_minute(utc: datetime, summer: bool, **flags) -> Reading:
     """The reading a DCF77 minute names, in Central European time."""
-    return local(utc, 4 if summer else 2, summer=summer, **flags)
+    return local(utc, SUMMER if summer else WINTER, summer=summer, **flags)

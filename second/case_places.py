@@ -7,7 +7,7 @@ from itertools import combinations
 from typing import Callable, Dict, Iterator, List, Sequence, Tuple, Union
 
 import case_minutes
-from case_parts import (PLAIN, POSITION, bridge_case, case, local, mend_frame, mend_minute,
+from case_parts import (PLAIN, POSITION, WINTER, bridge_case, case, local, mend_frame, mend_minute,
                         raw_erlangen, raw_frame, raw_meinberg, raw_minute, reading_bytes,
                         write_case)
 from reading import Reading
@@ -24,7 +24,7 @@ STRING_FAULTS: List[Fault] = TIME_FAULTS + DATE_FAULTS + [
     ("hour", 99), ("second", 60), ("year", 2023), ("weekday", 8), ("weekday", 9), ("weekday", 1)]
 MEINBERG_FAULTS: List[Fault] = STRING_FAULTS + [("letters", "?   ")]
 ERLANGEN_FAULTS: List[Fault] = STRING_FAULTS + [
-    ("offset", "+01:15"), ("offset", "-00:00"), ("offset", "+14:30"), ("offset", "-12:30"),
+    ("offset", "+01:20"), ("offset", "-00:00"), ("offset", "+14:15"), ("offset", "-12:15"),
     ("letters", "      L"), ("letters", "       "), ("letters", "?      "),
     ("position", b"\x7f" * 26)]
 FRAME_FAULTS: List[Fault] = TIME_FAULTS + [
@@ -36,11 +36,11 @@ MINUTE_FAULTS: List[Fault] = TIME_FAULTS[:2] + DATE_FAULTS + [
     ("length", 61), (20, FLIPPED), (28, FLIPPED), (35, FLIPPED), (58, FLIPPED),
     *((start, TEN) for start in (21, 29, 36, 45, 50, 54))]
 WRITER_FAULTS: List[Fault] = TIME_FAULTS + DATE_FAULTS[:5] + [
-    ("year", 1999), ("year", 2100), ("quality", 16), ("quality", 7), ("offset", 29), ("offset", -25),
-    ("offset", 5), ("second", 60), ("second", 1), ("change", True), ("room", 31)]
+    ("year", 1999), ("year", 2100), ("quality", 16), ("quality", 7), ("offset", 57), ("offset", -49),
+    ("offset", 5), ("offset", 10), ("second", 60), ("second", 1), ("change", True), ("room", 31)]
 
-LONG = local(datetime(2017, 1, 1), 2, leap=True)  # names a minute that has 61 marks
-EARLY = Reading(2000, 1, 1, 0, 30, 0, 2, False, False, False, 0)  # case 9: its stamp is 12
+LONG = local(datetime(2017, 1, 1), WINTER, leap=True)  # names a minute that has 61 marks
+EARLY = Reading(2000, 1, 1, 0, 30, 0, WINTER, False, False, False, 0)  # case 9: its stamp is 12
 DAYS = (0, 1, 28, 29, 30, 31, 32)
 MONTHS = (*range(14), 19)
 RECORDS, PIECES = 30, 8

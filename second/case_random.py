@@ -7,9 +7,9 @@ from typing import Callable, Iterator, Tuple
 import erlangen
 import meinberg
 from case_door import fitted
-from case_parts import (DROPPED, POSITION, WORSE, bridge_case, bridge_with_case, case, local,
-                        mend_frame, mend_minute, raw_erlangen, raw_frame, raw_meinberg, raw_minute,
-                        reading_bytes, write_case)
+from case_parts import (DROPPED, POSITION, SUMMER, WINTER, WORSE, bridge_case, bridge_with_case,
+                        case, local, mend_frame, mend_minute, raw_erlangen, raw_frame, raw_meinberg,
+                        raw_minute, reading_bytes, write_case)
 from case_streams import DAMAGES, damaged
 from case_telegrams import any_telegram
 from reading import Reading
@@ -18,14 +18,14 @@ DAY_COUNT = 36525
 SHARE_OF_TELEGRAMS = 1 / 14  # as of each other op
 ODD_VALUES = {"year": (1999, 2100, 0, 65535), "month": (0, 13, 255), "day": (0, 29, 30, 31, 32, 255),
               "hour": (24, 0, 23, 255), "minute": (60, 59, 0, 255), "second": (60, 61, 59, 0, 255),
-              "offset": (-25, 29, -24, 28, -128, 127), "quality": (0, 1, 14, 15, 16, 255)}
+              "offset": (-49, 57, -48, 56, 23, -128, 127), "quality": (0, 1, 14, 15, 16, 255)}
 STRING_VALUES = {"month": (0, 13, 99), "day": (0, 29, 30, 31, 32, 99), "hour": (24, 0, 23, 99),
                  "minute": (60, 59, 0, 99), "second": (60, 61, 59, 0, 99)}
 
 
 def good_reading(dice: random.Random) -> Reading:
-    """A reading that any format but the frame may still refuse; often near a month end."""
-    offset = dice.choice((0, 2, 4, 2, 4, dice.randrange(-24, 29)))
+    """A reading that any format may still refuse; often near a month end."""
+    offset = dice.choice((0, WINTER, SUMMER, WINTER, SUMMER, dice.randrange(-48, 57)))
     utc = datetime(2000, 1, 1) + timedelta(days=dice.randrange(DAY_COUNT),
                                            minutes=dice.randrange(1440))
     second = dice.choice((0, 0, 1, 59, dice.randrange(60)))
@@ -35,7 +35,7 @@ def good_reading(dice: random.Random) -> Reading:
         utc = datetime(dice.randrange(2001, 2099), month, day)
         utc += timedelta(minutes=dice.choice((-2, -1, -1, -1, 0, 0)))
         second = dice.choice((0, 1, 59, 60, 60))
-    reading = local(utc, offset, second, summer=offset == 4,
+    reading = local(utc, offset, second, summer=offset == SUMMER,
                     leap=dice.random() < 0.3, change=dice.random() < 0.2,
                     quality=dice.choice((0, 0, 0, 15, 15, dice.randrange(16))))
     if dice.random() < 0.03:  # the hundred years' first and last hour, UTC perhaps outside
@@ -91,7 +91,7 @@ def a_meinberg(dice: random.Random) -> bytes:
 
 def an_erlangen(dice: random.Random) -> bytes:
     weekday = dice.choice((-1, -1, -1, -1, dice.randrange(10)))
-    offset = dice.choice(("", "", "", "", "-00:00", "+14:30", "+05:45", "-12:30", "+00:30"))
+    offset = dice.choice(("", "", "", "", "-00:00", "+14:15", "+05:45", "-12:15", "+05:50"))
     string = raw_erlangen(any_reading(dice, STRING_VALUES), weekday, offset,
                           coasting=dice.random() < 0.3)
     string = spoiled(string, dice, b"0123456789 L!AS#*+-", as_it_is)
@@ -100,7 +100,7 @@ def an_erlangen(dice: random.Random) -> bytes:
 
 def a_frame(dice: random.Random) -> bytes:
     reading = any_reading(dice, {"hour": (24, 29, 0), "minute": (60, 79, 59), "second": (60, 61, 79),
-                                 "offset": (-31, 29, 31, -25, 0), "month": (13,), "day": (30, 31)})
+                                 "offset": (-62, 58, 62, -50, 0), "month": (13,), "day": (30, 31)})
     changed = {}
     if dice.random() < 0.1:
         changed = dice.choice(({"deletion": 1}, {"minus": 1}, {"day_of_year": 366},
@@ -124,7 +124,8 @@ def a_minute(dice: random.Random) -> bytes:
 def a_write(op: int, length: int, dice: random.Random) -> bytes:
     reading = any_reading(dice)
     if op == 8 and dice.random() < 0.8:
-        reading = reading._replace(second=0, quality=0, offset=4 if reading.summer else 2)
+        reading = reading._replace(second=0, quality=0,
+                                   offset=SUMMER if reading.summer else WINTER)
     room = dice.choice((length, length, length, length + 1, length - 1, 255, 0, length + 2))
     beside = dice.choice((0, 1)) if op in (5, 6) else dice.choice(
         (0, 1, 32767, dice.randrange(32768), dice.randrange(32768), dice.randrange(65536)))

@@ -5,8 +5,8 @@ import random
 from datetime import datetime, timedelta
 from typing import Iterator, List
 
-from case_parts import (LARGEST_PAYLOAD, PLAIN, case, german_minute, local, mend_frame, mend_minute,
-                        raw_frame, raw_minute, with_pulses)
+from case_parts import (LARGEST_PAYLOAD, PLAIN, WINTER, case, german_minute, local, mend_frame,
+                        mend_minute, raw_frame, raw_minute, with_pulses)
 
 SECOND = timedelta(seconds=1)
 MINUTE = timedelta(minutes=1)
@@ -42,7 +42,7 @@ def split(op: int, stream: bytes) -> Iterator[bytes]:
         yield case(op, stream[start:start + LARGEST_PAYLOAD - 1])
 
 
-def frames_from(start: datetime, count: int, offset: int = 2) -> bytes:
+def frames_from(start: datetime, count: int, offset: int = WINTER) -> bytes:
     """Frames of consecutive UTC seconds, one hundred pulses each."""
     pulses = bytearray()
     for number in range(count):
@@ -54,7 +54,7 @@ def frames_from(start: datetime, count: int, offset: int = 2) -> bytes:
 def frames_with_leap_second() -> bytes:
     """Twenty frames up to 23:59:59, the leap second's own frame, and eighteen after it."""
     midnight = datetime(2017, 1, 1)
-    leap_second = raw_frame(local(midnight - MINUTE, 2, 60))
+    leap_second = raw_frame(local(midnight - MINUTE, WINTER, 60))
     return (frames_from(midnight - 20 * SECOND, 20) + bytes(leap_second)
             + frames_from(midnight, 18))
 
@@ -153,7 +153,7 @@ def damaged_frames() -> Iterator[bytes]:
 def stretches() -> Iterator[bytes]:
     """Stretches of every length around the right ones, with and without gaps before."""
     minute = bytes(raw_minute(PLAIN))
-    long = bytes(raw_minute(local(datetime(2017, 1, 1), 2, leap=True), 9))
+    long = bytes(raw_minute(local(datetime(2017, 1, 1), WINTER, leap=True), 9))
     yield case(12)
     for first in (minute, long):
         yield case(12, first)

@@ -6,10 +6,11 @@ from datetime import datetime, timedelta
 from typing import Iterator
 
 import case_door
-from case_parts import (PLAIN, POSITION, REAL_LEAP_DAYS, case, local, raw_erlangen, raw_meinberg,
-                        write_case)
+from case_parts import (MEINBERG_OFFSETS, PLAIN, POSITION, REAL_LEAP_DAYS, SUMMER, WINTER, case,
+                        local, raw_erlangen, raw_meinberg, write_case)
 
-ODD_OFFSETS = (11, -7, -24, 28, 0, 1, -1, 2, 4, 27, -23)  # +05:30 -03:30 -12:00 +14:00 ..
+# +05:30 +05:45 -03:30 -12:00 +14:00 .. +13:45 -11:45
+OTHER_OFFSETS = (22, 23, -14, -48, 56, 0, 1, -1, 2, WINTER, SUMMER, 55, -47)
 PUBLISHED = (
     b"\x02D:dd.mm.yy;T:w;U:hh.mm.ss;uvxy\x03",  # 000, 003
     b"\x02D:tt.mm.jj;T:w;U:hh.mm.ss;uvxy\x03",  # 001, 002
@@ -25,8 +26,9 @@ def published() -> Iterator[bytes]:
     for layout in PUBLISHED:
         yield case(1, layout)
     for year, month, day in PUBLISHED_DATES:
-        for offset, summer in ((0, False), (2, False), (4, True)):
-            reading = PLAIN._replace(year=year, month=month, day=day, offset=offset, summer=summer)
+        for offset in MEINBERG_OFFSETS:
+            reading = PLAIN._replace(year=year, month=month, day=day, offset=offset,
+                                     summer=offset == SUMMER)
             for quality in (0, 15):
                 for coasting in (False, True):
                     reading = reading._replace(quality=quality)
@@ -46,10 +48,10 @@ def leap_seconds() -> Iterator[bytes]:
         moments = [(minute, 0), (minute, 1), (minute, 58), (minute, 59), (minute, 60),
                    (minute + timedelta(minutes=1), 0)]
         for utc, second in moments:
-            for offset in (0, 2, 4) + ODD_OFFSETS:
+            for offset in MEINBERG_OFFSETS + OTHER_OFFSETS:
                 for leap in (True, False):
-                    reading = local(utc, offset, second, summer=offset == 4, leap=leap)
-                    if offset in (0, 2, 4):
+                    reading = local(utc, offset, second, summer=offset == SUMMER, leap=leap)
+                    if offset in MEINBERG_OFFSETS:
                         yield case(1, raw_meinberg(reading))
                         yield write_case(5, reading, 0, 40)
                     yield case(1, raw_erlangen(reading))
@@ -69,10 +71,10 @@ def letters() -> Iterator[bytes]:
                        for bit, letter in enumerate("#*S!A"))
         for second, i in ((56, "L"), (56, " ")) if number < 32 else ((60, "L"), (60, " ")):
             utc = datetime(2016, 12, 31, 23, 59)
-            yield case(1, raw_erlangen(local(utc, 2, second), letters=text[:5] + " " + i))
+            yield case(1, raw_erlangen(local(utc, WINTER, second), letters=text[:5] + " " + i))
     for offset in range(-128, 128):
         yield write_case(6, PLAIN._replace(offset=offset), 0, 68, POSITION)
-        yield write_case(5, PLAIN._replace(offset=offset, summer=offset == 4), 0, 32)
+        yield write_case(5, PLAIN._replace(offset=offset, summer=offset == SUMMER), 0, 32)
     for sign in "+-":
         for hours in list(range(0, 20)) + [99]:
             for minutes in (0, 1, 15, 29, 30, 31, 45, 59, 60, 90, 99):
@@ -80,7 +82,7 @@ def letters() -> Iterator[bytes]:
 
 
 def wrongly_accepted() -> Iterator[bytes]:
-    """What other decoders take: 1x digits, any weekday, second 60 at any time, odd offsets."""
+    """What other decoders take: 1x digits, any weekday, second 60 at any time, strange offsets."""
     good, long_good = raw_meinberg(), raw_erlangen()
     for place in (3, 4, 6, 7, 9, 10, 14, 18, 19, 21, 22, 24, 25):
         for byte in b"x /:;-+A\x00\xb2":
@@ -97,13 +99,14 @@ def wrongly_accepted() -> Iterator[bytes]:
         yield case(1, raw_erlangen(PLAIN._replace(month=12, day=day, hour=0, minute=59, second=60)))
     for minute in (0, 58, 59):
         for hour in range(24):
-            for offset in (0, 2, 4):
+            for offset in MEINBERG_OFFSETS:
                 reading = PLAIN._replace(month=12, day=31, hour=hour, minute=minute, second=60,
                                          offset=offset)
                 yield case(1, raw_meinberg(reading))
                 yield case(1, raw_erlangen(reading._replace(month=7, day=1)))
     for text in ("+99:99", "-00:00", "+00:00", "-00:30", "+0x:00", "+00:0x", " 01:00", "+01.00",
-                 "+24:00", "-24:00", "+14:30", "-12:30", "+1 :00", "\xb101:00"):
+                 "+24:00", "-24:00", "+14:30", "-12:30", "+14:15", "-12:15", "+05:50", "+05:60",
+                 "+1 :00", "\xb101:00"):
         yield case(1, raw_erlangen(offset=text))
 
 
@@ -136,17 +139,17 @@ def refused_strings() -> Iterator[bytes]:
 def writers() -> Iterator[bytes]:
     """Every refusal of the two string writers, with room and position part edges."""
     faulty = [PLAIN, PLAIN._replace(quality=15, summer=True), PLAIN._replace(quality=7),
-              PLAIN._replace(quality=16), PLAIN._replace(quality=255), PLAIN._replace(offset=29),
+              PLAIN._replace(quality=16), PLAIN._replace(quality=255), PLAIN._replace(offset=57),
               PLAIN._replace(offset=-128), PLAIN._replace(second=60), PLAIN._replace(second=61),
               PLAIN._replace(month=0), PLAIN._replace(month=255, offset=-128),
               PLAIN._replace(day=0), PLAIN._replace(day=30), PLAIN._replace(year=1999),
               PLAIN._replace(year=2100), PLAIN._replace(year=0), PLAIN._replace(year=65535),
-              PLAIN._replace(hour=24), PLAIN._replace(minute=60), PLAIN._replace(offset=5),
+              PLAIN._replace(hour=24), PLAIN._replace(minute=60), PLAIN._replace(offset=10),
               PLAIN._replace(leap=True, change=True), PLAIN._replace(leap=True),
-              PLAIN._replace(change=True), PLAIN._replace(offset=4),
-              PLAIN._replace(offset=4, summer=True), PLAIN._replace(offset=0, summer=True),
+              PLAIN._replace(change=True), PLAIN._replace(offset=SUMMER), PLAIN._replace(offset=5),
+              PLAIN._replace(offset=SUMMER, summer=True), PLAIN._replace(offset=0, summer=True),
               PLAIN._replace(offset=0), PLAIN._replace(second=60, quality=3),
-              PLAIN._replace(offset=29, quality=3), PLAIN._replace(offset=29, second=60)]
+              PLAIN._replace(offset=57, quality=3), PLAIN._replace(offset=57, second=60)]
     for reading in faulty:
         for room in (0, 31, 32, 33, 255):
             yield write_case(5, reading, 1, room)
@@ -170,10 +173,10 @@ def writers() -> Iterator[bytes]:
 def changes() -> Iterator[bytes]:
     """Every one-byte change of good strings."""
     leap = local(datetime(2016, 12, 31, 23, 59), 0, 60, leap=True)
-    for reading in (PLAIN, leap, leap._replace(second=59), local(datetime(2015, 6, 30, 23, 59), 4,
-                    60, summer=True), PLAIN._replace(year=2000, quality=15)):
+    for reading in (PLAIN, leap, leap._replace(second=59), local(datetime(2015, 6, 30, 23, 59),
+                    SUMMER, 60, summer=True), PLAIN._replace(year=2000, quality=15)):
         yield case(20, raw_meinberg(reading))
-    for reading in (leap, PLAIN._replace(offset=-7, change=True),
+    for reading in (leap, PLAIN._replace(offset=-13, change=True),
                     PLAIN._replace(offset=0, summer=True)):
         yield case(20, raw_erlangen(reading, coasting=True))
     yield case(20, raw_meinberg()[:3])

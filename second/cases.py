@@ -10,6 +10,7 @@ import case_minutes
 import case_months
 import case_others
 import case_places
+import case_quarters
 import case_random
 import case_streams
 import case_strings
@@ -28,6 +29,7 @@ NAMED = {
     "streams": case_streams.make,
     "books": case_others.books,
     "telegrams": case_telegrams.make,
+    "quarters": case_quarters.make,
 }
 
 

@@ -20,13 +20,14 @@ from bridge import bridge
 from check_coasting import check_bridged, check_coasting
 from check_door import FILLED, check_door, check_string, check_written
 from check_places import PLACES, Asked, asked_in, check_places, check_seen, refusals_in
+from check_quarters import check_quarters
 from check_telegrams import check_read_back, check_telegrams
 from checks import Checks
 from clock_string import ToldString
 from pulse_readers import FrameReader
 from reading import Reading, Refusal, Told, stamp, utc_minute
 
-CASE_SIX = Reading(2024, 2, 29, 12, 34, 56, 2, False, False, False, 0)
+CASE_SIX = Reading(2024, 2, 29, 12, 34, 56, 4, False, False, False, 0)
 CASE_SIX_ONES = [2, 3, 6, 8, 12, 15, 16, 21, 25, 36, 37, 52, 56, 64, 65, 75, 84, 85, 86, 87, 93,
                  94, 96]
 CASE_EIGHT_ONES = [18, 20, 23, 25, 26, 28, 30, 33, 36, 39, 41, 44, 46, 52, 55, 58]
@@ -58,14 +59,14 @@ def check_dates(check: Checks) -> None:
     check.that(stamp(moment(2000, 1, 1, 0, 0, 0, 0)) == 0, "case 1")
     told = clock_string.read(CASE_TWO)
     check.that(isinstance(told, ToldString) and stamp(told.reading) == 536550209, "case 2")
-    check.that(stamp(moment(2017, 1, 1, 0, 59, 60, 2)) == 536550209, "case 3, leap second")
+    check.that(stamp(moment(2017, 1, 1, 0, 59, 60, 4)) == 536550209, "case 3, leap second")
     check.that(stamp(moment(2017, 1, 1, 0, 0, 0, 0)) == 536550210, "case 3, midnight")
-    check.that(stamp(moment(2017, 1, 2, 0, 59, 60, 2)) == Refusal(9), "case 4")
+    check.that(stamp(moment(2017, 1, 2, 0, 59, 60, 4)) == Refusal(9), "case 4")
     good = b"\x02D:29.02.24;T:4;U:12.34.56;    \x03"
     check.that(isinstance(clock_string.read(good), ToldString), "case 5, 2024")
     check.that(clock_string.read(good.replace(b"24;T", b"23;T")) == Refusal(16, 3),
                "case 5, 2023")
-    early = moment(2000, 1, 1, 0, 30, 0, 2)
+    early = moment(2000, 1, 1, 0, 30, 0, 4)
     check.that(isinstance(ieee1344.read(frame_of(early)), Told), "case 9, accepted")
     check.that(stamp(early) == Refusal(12), "case 9, stamp")
     check.that(stamp(moment(2099, 12, 31, 23, 59, 60, 0)) == 3155796524, "largest stamp")
@@ -84,7 +85,7 @@ def check_month_ends(check: Checks) -> None:
         string = ("\x02D:30.04.24;T:2;U:23.59.%s;  UA\x03" % second).encode()
         check.that(bridge(string, frame) == 100, "bridged at " + second)
         check.that(frame[60] == pending, "pending at " + second)
-    first = moment(2024, 3, 1, 1, 0, 0, 2)._replace(leap=True)
+    first = moment(2024, 3, 1, 1, 0, 0, 4)._replace(leap=True)
     marks = bytearray(61)
     check.that(dcf77.write(first, 0, marks) == 61, "1 March, written")
     check.that(dcf77.read(bytes(marks)) == Told(first, 0) and stamp(first) == 762575226, "1 March")
@@ -102,7 +103,7 @@ def check_frames(check: Checks) -> None:
     check.that(dcf77.write(CASE_SIX._replace(second=0), 0, minute) == 60, "case 8, length")
     check.that([place for place in range(60) if minute[place] == 1] == CASE_EIGHT_ONES, "case 8")
     check.that(minute[59] == 2, "case 8, gap")
-    for offset, wanted in ((28, 100), (29, Refusal(8)), (-24, 100), (-25, Refusal(8))):
+    for offset, wanted in ((56, 100), (57, Refusal(8)), (-48, 100), (-49, Refusal(8))):
         answer = ieee1344.write(CASE_SIX._replace(offset=offset), bytearray(100))
         check.that(answer == wanted, "case 10, offset %d" % offset)
     reader = FrameReader()
@@ -232,8 +233,8 @@ def check_streams(check: Checks) -> None:
 def main() -> None:
     check = Checks()
     for part in (check_dates, check_month_ends, check_frames, check_layouts, check_listing,
-                 check_places, check_door, check_coasting, check_telegrams, check_order,
-                 check_streams):
+                 check_places, check_door, check_coasting, check_telegrams, check_quarters,
+                 check_order, check_streams):
         part(check)
     for what in check.failed[:50]:
         print("failed: " + what)

@@ -86,7 +86,7 @@ def check_stream(check: Checks) -> None:
 
 def due_in_frame(reading: Reading, quality: int) -> Reading:
     """A string's reading as its frame has to tell it: what is announced within its window alone."""
-    utc = datetime(*reading[:5]) - timedelta(minutes=30 * reading.offset)
+    utc = datetime(*reading[:5]) - timedelta(minutes=15 * reading.offset)
     last_day = calendar.monthrange(utc.year, utc.month)[1]
     month_ends = (utc.day, utc.hour, utc.minute) == (last_day, 23, 59)
     in_window = reading.second not in (0, 60)
@@ -107,13 +107,16 @@ def check_frames(check: Checks, string: bytes, reading: Reading, worse: bytes,
 
 def check_bridged(check: Checks, op: int, payload: bytes, line: str) -> None:
     """A line of op 10, which is that of the worse way, or of op 16. Whatever the way: room first, then
-    the refusal that the string has anywhere, and nothing written; else a frame."""
+    the refusal that the string has anywhere, then 11 where its offset is an odd number of quarter hours,
+    and nothing written; else a frame."""
     room, string = payload[0], payload[1:] if op == 10 else payload[2:]
     worse, dropped = (answers.answer_line(16, bytes((room, way)) + string)
                       for way in (WORSE, DROPPED))
     way = WORSE if op == 10 else payload[1]
     check.that(line == {WORSE: worse, DROPPED: dropped}.get(way), "op %d: %s" % (op, line))
     told = clock_string.read(string) if room >= 100 else Refusal(1)
+    if not isinstance(told, Refusal) and told.reading.offset % 2 == 1:
+        told = Refusal(11)
     if isinstance(told, Refusal):
         due = "no %d %d %s" % (*told, FILLED.hex() * room or "-")
         check.that(worse == due and dropped == due, "refusal by either way: " + line)

@@ -14,7 +14,7 @@ from checks import Checks
 from reading import Refusal, stamp
 
 FILLED = bytes([answers.FILLING])
-FIELDS = "2024 2 29 12 34 56 2 0 0 0 0"  # of case 6
+FIELDS = "2024 2 29 12 34 56 4 0 0 0 0"  # of case 6
 KINDS = {32: "meinberg", 68: "erlangen"}
 OTHER_LENGTHS = [length for length in (*range(141), 288, 324, 65568) if length not in KINDS]
 # Input of op 1, and the line.
@@ -28,7 +28,7 @@ LINES = (
      "erlangen %s 1 part %s" % (FIELDS, POSITION.hex())),
     (b"\x0201.01.17; 7; 04:59:60; -19:00;   S!A L; " + POSITION + b"\x03", "no 8 24 part -"),
     (b"\x0231.12.16; 6; 19:59:60; -04:00;   S!A L; " + POSITION + b"\x03",
-     "erlangen 2016 12 31 19 59 60 -8 1 1 1 0 0 part " + POSITION.hex()),
+     "erlangen 2016 12 31 19 59 60 -16 1 1 1 0 0 part " + POSITION.hex()),
     (b"\x0229.02.24; 4; 12:34:56; +01:00;        ; " + POSITION, "no 1 0 part -"),
     (b"\x02D:29.02.24;T:4;U:12.34.56;    \x03\n", "no 1 0 part -"),
     (b"\x02D:29.02.24;T:4;U:24.34.56;    \x03", "no 15 18 part -"),

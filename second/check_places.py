@@ -47,9 +47,9 @@ PLACES: Dict[Asked, Table] = {
     (3, 0): joined(FRAME, placeless(1)), (4, 0): joined(MINUTE, placeless(1)),
     (5, 0): placeless(1, 15, 16, 17, 8, 9, 11),
     (6, 0): joined(placeless(1, 15, 16, 17, 8, 9, 11), {2: set(range(26))}),
-    (7, 0): placeless(1, 15, 16, 17, 8, 9), (8, 0): placeless(1, 15, 16, 17, 8, 9, 11),
+    (7, 0): placeless(1, 15, 16, 17, 8, 9, 11), (8, 0): placeless(1, 15, 16, 17, 8, 9, 11),
     (9, 0): placeless(15, 16, 17, 8, 9, 12),
-    (10, 32): joined(MEINBERG, placeless(1)), (10, 68): joined(ERLANGEN, placeless(1)),
+    (10, 32): joined(MEINBERG, placeless(1)), (10, 68): joined(ERLANGEN, placeless(1, 11)),
     (10, 0): placeless(1), (11, 0): FRAME, (12, 0): MINUTE,
     (13, 0): joined(MEINBERG, ERLANGEN, FRAME, MINUTE, placeless(12, 13, 14)),
     (14, 0): {}, (15, 0): placeless(1, 18, 15, 16, 17, 9, 12)}
@@ -71,9 +71,10 @@ STRINGS = (
     ("00.02.24", 0, "12.34.99", 15, 24, 20), ("29.02.24", 5, "12.34.60", 6, 14, 11),
     ("31.04.24", 3, "12.34.60", 16, 3, 1), ("29.02.24", 4, "12.34.60", 9, 24, 20))
 # Second, offset and letters of a Uni Erlangen string; code and place.
-ENDS = (("56", "+01:15", " ", 8, 24), ("56", "-00:00", " ", 8, 24), ("56", "+14:30", " ", 8, 24),
-        ("56", "-12:30", " ", 8, 24), ("56", "+01:15", "L", 8, 24), ("60", "+01:31", "L", 8, 24),
-        ("56", "+01:00", "L", 9, 20), ("60", "+01:00", " ", 9, 20), ("60", "+01:00", "L", 9, 20))
+ENDS = (("56", "+01:20", " ", 8, 24), ("56", "-00:00", " ", 8, 24), ("56", "+14:15", " ", 8, 24),
+        ("56", "-12:15", " ", 8, 24), ("56", "+01:20", "L", 8, 24), ("60", "+01:31", "L", 8, 24),
+        ("56", "+01:00", "L", 9, 20), ("60", "+01:00", " ", 9, 20), ("60", "+01:00", "L", 9, 20),
+        ("56", "+01:15", "L", 9, 20), ("60", "+01:15", " ", 9, 20), ("60", "+01:15", "L", 9, 20))
 # Field values of a frame, its parity mended; code and place.
 FRAMES = (({"second": 61}, 15, 1), ({"minute": 60}, 15, 10), ({"hour": 24}, 15, 20),
           ({"second": 61, "hour": 25}, 15, 1), ({"minute": 60, "hour": 24}, 15, 10),
@@ -102,11 +103,11 @@ MINUTE_DIGITS = (((21,), 21), ((29,), 29), ((36,), 36), ((45,), 45), ((50,), 50)
 PARITIES = (((28,), 28), ((35,), 35), ((58,), 58), ((28, 35), 28), ((28, 58), 28), ((35, 58), 35),
             ((28, 35, 58), 28))
 # Faults of a reading in the order of their codes; each is given although all later ones apply too.
-ORDER = ((15, {"hour": 24}), (16, {"month": 13}), (17, {"quality": 16}), (8, {"offset": 29}),
+ORDER = ((15, {"hour": 24}), (16, {"month": 13}), (17, {"quality": 16}), (8, {"offset": 57}),
          (9, {"second": 60}))
 # A fault beside a head too large, and the code.
 HEAD_ORDER = (({}, 17), ({"minute": 60}, 15), ({"day": 0}, 16), ({"quality": 16}, 17),
-              ({"offset": 29}, 17), ({"second": 60}, 17), ({"second": 1}, 17))
+              ({"offset": 57}, 17), ({"second": 60}, 17), ({"second": 1}, 17))
 
 
 def check_refusal(check: Checks, kind: int, body: bytes, due: Tuple[int, int]) -> None:

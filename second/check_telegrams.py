@@ -21,16 +21,16 @@ DAY = timedelta(days=1)
 CHANGE_MARK, SUMMER_MARK, LEAP_MARK = 16, 17, 19
 # Sent minute; local minute that is named, its offset, whether it is summer and a change announced.
 CHANGES_OF_2024 = (
-    ((2024, 3, 30, 23, 59), (2024, 3, 31, 1, 0), 2, False, False),
-    ((2024, 3, 31, 0, 0), (2024, 3, 31, 1, 1), 2, False, True),
-    ((2024, 3, 31, 0, 58), (2024, 3, 31, 1, 59), 2, False, True),
-    ((2024, 3, 31, 0, 59), (2024, 3, 31, 3, 0), 4, True, True),
-    ((2024, 3, 31, 1, 0), (2024, 3, 31, 3, 1), 4, True, False),
-    ((2024, 10, 26, 23, 59), (2024, 10, 27, 2, 0), 4, True, False),
-    ((2024, 10, 27, 0, 0), (2024, 10, 27, 2, 1), 4, True, True),
-    ((2024, 10, 27, 0, 58), (2024, 10, 27, 2, 59), 4, True, True),
-    ((2024, 10, 27, 0, 59), (2024, 10, 27, 2, 0), 2, False, True),
-    ((2024, 10, 27, 1, 0), (2024, 10, 27, 2, 1), 2, False, False))
+    ((2024, 3, 30, 23, 59), (2024, 3, 31, 1, 0), 4, False, False),
+    ((2024, 3, 31, 0, 0), (2024, 3, 31, 1, 1), 4, False, True),
+    ((2024, 3, 31, 0, 58), (2024, 3, 31, 1, 59), 4, False, True),
+    ((2024, 3, 31, 0, 59), (2024, 3, 31, 3, 0), 8, True, True),
+    ((2024, 3, 31, 1, 0), (2024, 3, 31, 3, 1), 8, True, False),
+    ((2024, 10, 26, 23, 59), (2024, 10, 27, 2, 0), 8, True, False),
+    ((2024, 10, 27, 0, 0), (2024, 10, 27, 2, 1), 8, True, True),
+    ((2024, 10, 27, 0, 58), (2024, 10, 27, 2, 59), 8, True, True),
+    ((2024, 10, 27, 0, 59), (2024, 10, 27, 2, 0), 4, False, True),
+    ((2024, 10, 27, 1, 0), (2024, 10, 27, 2, 1), 4, False, False))
 # Sent minute; local minute that is named, whether a leap second is announced, how many marks.
 LEAP_OF_2016 = (
     ((2016, 12, 31, 22, 59), (2017, 1, 1, 0, 0), False, 60),
@@ -101,7 +101,7 @@ def check_literals(check: Checks) -> None:
         marks = marks_of(asked)
         told = dcf77.read(marks)
         check.that(len(marks) == length, "marks sent %s" % (sent,))
-        check.that(told == ((*named, 0, 2, False, leap, False, 0), 0), "leap, sent %s" % (sent,))
+        check.that(told == ((*named, 0, 4, False, leap, False, 0), 0), "leap, sent %s" % (sent,))
         unset = marks_of(asked._replace(leap_set=0))
         check.that(len(unset) == 60 and unset[LEAP_MARK] == 0, "no leap second, sent %s" % (sent,))
     for elsewhere in LEAPS_ELSEWHERE:
@@ -205,7 +205,7 @@ def check_runs(check: Checks) -> None:
             lengths.append(len(marks))
             said = [reader.take(mark) for mark in marks]
             summer = begin <= sent + MINUTE < end
-            named = local(sent + MINUTE, 4 if summer else 2, summer=summer,
+            named = local(sent + MINUTE, 8 if summer else 4, summer=summer,
                           change=sent.hour == 0 and sent.date() in (begin.date(), end.date()),
                           leap=sent.hour == 23 and sent.date() == leap)
             check.that(said[-1:] == [Told(named, number * 7 % 32768)] and not any(said[:-1]),

@@ -1,5 +1,6 @@
 """The DCF77 minute: 60 or 61 marks, 0 short, 1 long, 2 missing; it names the minute after it.
-Reads and writes it from a dictionary of fields, each a list of (mark, weight)."""
+Reads and writes it from a dictionary of fields, each a list of (mark, weight); its two zones are in
+L9's quarter hours."""
 
 from typing import Optional, Union
 
@@ -31,8 +32,8 @@ DIGITS = digits_that_can_exceed(FIELDS[name] for name in ("minute", "hour", "day
 # Field -> its first mark; the zone's is that of summer
 PLACES = {name: field[0][0] for name, field in FIELDS.items()}
 PARITY_GROUPS = {28: range(21, 29), 35: range(29, 36), 58: range(36, 59)}
-# (summer zone, winter zone) -> (offset in half hours, summer)
-ZONES = {(0, 1): (2, False), (1, 0): (4, True)}
+# (summer zone, winter zone) -> (offset in quarter hours, summer)
+ZONES = {(0, 1): (4, False), (1, 0): (8, True)}
 
 
 def allowed_for(length: int) -> list:

@@ -1,5 +1,5 @@
 """The Uni Erlangen (NTP) string: 68 bytes with the offset in it and 26 position bytes at 41..66.
-Reads and writes it as document 01 draws it."""
+Reads and writes it as document 01 draws it. L9: the offset's minutes are 00, 15, 30 or 45."""
 
 from typing import Optional, Union
 
@@ -21,6 +21,8 @@ CHARACTERS = {"d": DIGIT, "m": DIGIT, "y": DIGIT, "w": DIGIT, "h": DIGIT, "n": D
 PICTURE = "\x02dd.mm.yy; w; hh:nn:ss; voo:oo; acS!A L; " + "p" * POSITION_LENGTH + "\x03"
 ALLOWED = [frozenset(CHARACTERS.get(mark, mark).encode("ascii")) for mark in PICTURE]
 PRINTABLE_BYTES = frozenset(PRINTABLE.encode("ascii"))
+# The minutes of an offset that is none, one, two or three quarters past its hours
+QUARTERS = (0, 15, 30, 45)
 # Field -> its first byte; the offset's is its sign
 PLACES = {name: PICTURE.index(mark) for name, mark in (
     ("day", "d"), ("month", "m"), ("year", "y"), ("weekday", "w"), ("hour", "h"), ("minute", "n"),
@@ -28,11 +30,12 @@ PLACES = {name: PICTURE.index(mark) for name, mark in (
 
 
 def said_offset(data: bytes) -> Optional[int]:
-    """The offset at 24..29 in half hours, or nothing: not half hours, minus zero, out of range."""
+    """The offset at 24..29 in quarter hours, or nothing: not quarter hours, minus zero, out of
+    range."""
     hours, minutes = text_number(data, 25), text_number(data, 28)
-    if minutes not in (0, 30):
+    if minutes not in QUARTERS:
         return None
-    size = 2 * hours + minutes // 30
+    size = len(QUARTERS) * hours + QUARTERS.index(minutes)
     minus = data[24] == ord("-")
     if minus and size == 0:
         return None
@@ -74,11 +77,11 @@ def position_refusal(position: bytes) -> Optional[Refusal]:
 
 def text_of(reading: Reading, coasting: bool) -> str:
     """The 41 characters before the position part."""
+    hours, quarters = divmod(abs(reading.offset), len(QUARTERS))
     return "\x02%02d.%02d.%02d; %d; %02d:%02d:%02d; %s%02d:%02d; %s%s%s%s%s %s; " % (
         reading.day, reading.month, reading.year % 100, weekday(reading),
         reading.hour, reading.minute, reading.second,
-        "-" if reading.offset < 0 else "+",
-        abs(reading.offset) // 2, 30 * (abs(reading.offset) % 2),
+        "-" if reading.offset < 0 else "+", hours, QUARTERS[quarters],
         "#" if reading.quality == FAILED else " ",
         "*" if coasting else " ",
         "S" if reading.summer else " ",

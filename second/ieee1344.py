@@ -1,5 +1,6 @@
 """The IEEE 1344 frame: one hundred pulses, bytes 0, 1 and 2 (position mark).
-Reads and writes it from a dictionary of fields, each a list of (pulse, weight)."""
+Reads and writes it from a dictionary of fields, each a list of (pulse, weight). Its pulses still say
+half hours, so that since L9 it does not carry an offset of an odd number of quarter hours."""
 
 from datetime import timedelta, date
 from typing import Optional, Union
@@ -36,6 +37,9 @@ DIGITS = digits_that_can_exceed(
     FIELDS[name] for name in ("second", "minute", "hour", "day of year", "year"))
 # Field -> its first pulse; the offset's is its sign
 PLACES = {name: field[0][0] for name, field in FIELDS.items()}
+# What the pulses of the offset are worth, in the reading's quarter hours
+HOUR = 4
+HALF_HOUR = 2
 PARITY_PLACES = [place for place in range(1, 76) if place not in MARKS]
 DATA_PLACES = frozenset(pulse for field in FIELDS.values() for pulse, _ in field)
 
@@ -56,9 +60,9 @@ def date_of_day(year: int, day_of_year: int) -> Optional[date]:
 
 
 def said_added(pulses: bytes) -> Optional[int]:
-    """The half hours to add to local time to reach UTC; nothing for minus zero."""
-    size = (2 * field_value(pulses, FIELDS["offset hours"])
-            + field_value(pulses, FIELDS["offset half hour"]))
+    """The quarter hours to add to local time to reach UTC; nothing for minus zero."""
+    size = (HOUR * field_value(pulses, FIELDS["offset hours"])
+            + HALF_HOUR * field_value(pulses, FIELDS["offset half hour"]))
     if not field_value(pulses, FIELDS["minus"]):
         return size
     return -size if size else None
@@ -96,6 +100,10 @@ def read(pulses: bytes) -> Answer:
     return refusal or Told(reading)
 
 
+def cannot_carry(reading: Reading) -> bool:
+    return reading.offset % HALF_HOUR != 0
+
+
 def said_of(reading: Reading) -> dict:
     """The value of every field but the parity."""
     added = -reading.offset
@@ -106,7 +114,7 @@ def said_of(reading: Reading) -> dict:
         "year": reading.year - FIRST_YEAR,
         "leap pending": int(reading.leap), "change pending": int(reading.change),
         "summer": int(reading.summer), "minus": 1 if added < 0 else 0,
-        "offset hours": abs(added) // 2, "offset half hour": abs(added) % 2,
+        "offset hours": abs(added) // HOUR, "offset half hour": abs(added) % HOUR // HALF_HOUR,
         "quality": reading.quality,
         "second of day": second_of_day(reading.hour, reading.minute, reading.second),
     }
@@ -130,5 +138,7 @@ def write(reading: Reading, output: bytearray) -> Union[int, Refusal]:
     refusal = reading_refusal(reading)
     if refusal is not None:
         return refusal
+    if cannot_carry(reading):
+        return Refusal(11)
     output[:LENGTH] = frame_of(said_of(reading))
     return LENGTH

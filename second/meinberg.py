@@ -1,5 +1,5 @@
 """The Meinberg standard string: 32 bytes, STX D:dd.mm.yy;T:w;U:hh.mm.ss;uvxy ETX.
-Reads and writes it as document 01 draws it."""
+Reads and writes it as document 01 draws it, its three zones in L9's quarter hours."""
 
 from typing import Union
 
@@ -19,8 +19,8 @@ ALLOWED = [frozenset(CHARACTERS.get(mark, mark).encode("ascii")) for mark in PIC
 PLACES = {name: PICTURE.index(mark) for name, mark in (
     ("day", "d"), ("month", "m"), ("year", "y"), ("weekday", "w"), ("hour", "h"), ("minute", "i"),
     ("second", "s"))}
-# Zone letter -> (offset in half hours, summer)
-ZONES = {"U": (0, False), " ": (2, False), "S": (4, True)}
+# Zone letter -> (offset in quarter hours, summer)
+ZONES = {"U": (0, False), " ": (4, False), "S": (8, True)}
 # Announcement letter -> (leap, change)
 ANNOUNCEMENTS = {"!": (False, True), "A": (True, False), " ": (False, False)}
 

@@ -1,7 +1,8 @@
 """The reading (local time, offset, flags), its refusals, its UTC, the leap rule and the stamp.
-The calendar is Python's own datetime; everything else is taken from document 01 as two requests
+The calendar is Python's own datetime; everything else is taken from document 01 as three requests
 amend it. L3: a leap second may close any UTC month. L5: a time, a date, and a quality or head out of
 range have a code each, 15, 16 and 17 where 5 stood, and a reader's refusal gives a field's place.
+L9: the offset counts quarter hours, -48 to +56.
 (L1, L7 and L8 amend nothing here; clock_string.py, bridge.py and telegram.py have them.)"""
 
 from datetime import date, datetime, timedelta
@@ -9,8 +10,9 @@ from typing import List, Mapping, NamedTuple, Optional, Sequence, Union
 
 FIRST_YEAR = 2000
 LAST_YEAR = 2099
-LOWEST_OFFSET = -24  # half hours, local minus UTC
-HIGHEST_OFFSET = 28
+LOWEST_OFFSET = -48  # quarter hours, local minus UTC
+HIGHEST_OFFSET = 56
+QUARTER_HOUR = timedelta(minutes=15)
 LARGEST_IN_TIME = {"hour": 23, "minute": 59, "second": 60}
 LONGEST_MONTH = 31
 LARGEST_QUALITY = 15
@@ -22,7 +24,7 @@ ONE_MINUTE = timedelta(minutes=1)
 
 
 class Reading(NamedTuple):
-    """A local time; offset in half hours, local minus UTC."""
+    """A local time; offset in quarter hours, local minus UTC."""
 
     year: int
     month: int
@@ -124,7 +126,7 @@ def offset_refusal(offset: int) -> Optional[Refusal]:
 def utc_minute(reading: Reading) -> datetime:
     """The UTC minute of a reading with good fields and offset; its second is the reading's."""
     local = datetime(reading.year, reading.month, reading.day, reading.hour, reading.minute)
-    return local - timedelta(minutes=30 * reading.offset)
+    return local - reading.offset * QUARTER_HOUR
 
 
 def starts_month(utc: datetime) -> bool:

@@ -4,7 +4,7 @@ one of every refusal."""
 from datetime import datetime
 
 from case_others import book_records
-from case_parts import local, raw_erlangen, raw_frame, raw_meinberg, raw_minute
+from case_parts import SUMMER, WINTER, local, raw_erlangen, raw_frame, raw_meinberg, raw_minute
 from reading import Reading
 
 UNKNOWN_KIND = b"\x09"
@@ -14,11 +14,11 @@ def clock_room() -> bytes:
     """The night of the leap second of 2016 as four clocks told it, with what a plant has seen go wrong."""
     utc = datetime(2016, 12, 31, 23, 59)
     leap_second = local(utc, 0, 60, leap=True)
-    before, after = local(utc, 2, 59), local(datetime(2017, 1, 1), 2)
-    named = local(datetime(2017, 1, 1), 2, leap=True)
-    early = Reading(2000, 1, 1, 0, 30, 0, 2, False, False, False, 0)
+    before, after = local(utc, WINTER, 59), local(datetime(2017, 1, 1), WINTER)
+    named = local(datetime(2017, 1, 1), WINTER, leap=True)
+    early = Reading(2000, 1, 1, 0, 30, 0, WINTER, False, False, False, 0)
     records = [(1, raw_meinberg(before)), (1, raw_meinberg(leap_second)),
-               (2, raw_erlangen(leap_second)), (3, raw_frame(local(utc, 2, 60))),
+               (2, raw_erlangen(leap_second)), (3, raw_frame(local(utc, WINTER, 60))),
                (5, raw_minute(named, 0, 61)), (2, raw_erlangen(after)), (3, raw_frame(after)),
                (1, raw_meinberg(after, weekday=1)), (3, raw_frame(after, second_of_day=1)),
                (2, raw_erlangen(offset="-00:00")), (1, raw_meinberg(early)),
@@ -30,14 +30,14 @@ def month_ends() -> bytes:
     """Second 60 at the ends of months in four zones, where a UTC month ends and where none does; and
     the minute that names 1 March 2024, 00:00 UTC, a leap second announced, in 61 marks and in 60."""
     def sixty(year: int, month: int, day: int, hour: int, offset: int) -> Reading:
-        return Reading(year, month, day, hour, 59, 60, offset, offset == 4, False, False, 0)
+        return Reading(year, month, day, hour, 59, 60, offset, offset == SUMMER, False, False, 0)
 
-    ends = [(2024, 2, 29, 23, 0), (2024, 3, 1, 0, 2), (2024, 3, 1, 1, 4), (2023, 2, 28, 23, 0),
-            (2024, 3, 31, 23, 0), (2024, 4, 30, 23, 0)]
-    others = [(2024, 2, 28, 23, 0), (2024, 2, 29, 23, 2), (2024, 3, 31, 23, 4)]
-    march = local(datetime(2024, 3, 1), 2, leap=True)
+    ends = [(2024, 2, 29, 23, 0), (2024, 3, 1, 0, WINTER), (2024, 3, 1, 1, SUMMER),
+            (2023, 2, 28, 23, 0), (2024, 3, 31, 23, 0), (2024, 4, 30, 23, 0)]
+    others = [(2024, 2, 28, 23, 0), (2024, 2, 29, 23, WINTER), (2024, 3, 31, 23, SUMMER)]
+    march = local(datetime(2024, 3, 1), WINTER, leap=True)
     records = [(1, raw_meinberg(sixty(*at))) for at in ends + others]
-    records += [(2, raw_erlangen(sixty(2024, 2, 29, 16, -14))),
+    records += [(2, raw_erlangen(sixty(2024, 2, 29, 16, -28))),
                 (3, raw_frame(sixty(2024, 2, 29, 23, 0))),
                 (5, raw_minute(march, 0, 61)), (4, raw_minute(march, 0, 60))]
     return b"".join(bytes((kind,)) + bytes(body) for kind, body in records)

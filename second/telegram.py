@@ -5,8 +5,8 @@ from datetime import date, datetime, time, timedelta
 from typing import NamedTuple, Optional, Tuple, Union
 
 import dcf77
-from reading import (FIRST_YEAR, LAST_YEAR, ONE_MINUTE, Reading, Refusal, exists, wrong_in_date,
-                     wrong_in_time)
+from reading import (FIRST_YEAR, LAST_YEAR, ONE_MINUTE, QUARTER_HOUR, Reading, Refusal, exists,
+                     wrong_in_date, wrong_in_time)
 
 ONE_HOUR = timedelta(hours=1)
 ONE_DAY = timedelta(days=1)
@@ -15,8 +15,8 @@ LAST_SET_DATE = (12, 25)  # month and day
 CHANGE_AT = time(1)  # UTC
 A_COMMON_YEAR = 2001
 A_LEAP_YEAR = 2000
-WINTER_OFFSET = 2  # half hours, local minus UTC
-SUMMER_OFFSET = 4
+WINTER_OFFSET = 4  # quarter hours, local minus UTC
+SUMMER_OFFSET = 8
 
 
 class SetDay(NamedTuple):
@@ -111,7 +111,7 @@ def reading_of(named: datetime, rule: Rule, leap: bool, change: bool) -> Reading
     begin, end = changes(rule, named.year)
     summer = begin <= named < end
     offset = SUMMER_OFFSET if summer else WINTER_OFFSET
-    local = named + timedelta(minutes=30 * offset)
+    local = named + offset * QUARTER_HOUR
     return Reading(local.year, local.month, local.day, local.hour, local.minute, 0, offset, summer,
                    leap, change, 0)
 

@@ -41,7 +41,7 @@ use Rattle.book.specs.Stamps.{stampingOf}
 
 -- ---- the readings
 
--- a local date and time, an offset in half hours east of UTC, leap announced; no other flag, quality 0
+-- a local date and time, an offset in quarter hours east of UTC, leap announced; no other flag, quality 0
 abbrev at : ℕ → ℕ → ℕ → ℕ → ℕ → ℕ → ℕ → Bool → Reading
 at y mo d h mi s east leap =
     record {
@@ -63,16 +63,16 @@ abbrev pub reading2 : Reading
 reading2 = at 2016 12 31 23 59 60 0 true
 
 abbrev pub reading9 : Reading
-reading9 = at 2000 1 1 0 30 0 2 false
+reading9 = at 2000 1 1 0 30 0 4 false
 
 abbrev pub reading6 : Reading
-reading6 = at 2024 2 29 12 34 56 2 false
+reading6 = at 2024 2 29 12 34 56 4 false
 
 abbrev pub reading8 : Reading
-reading8 = at 2024 2 29 12 34 0 2 false
+reading8 = at 2024 2 29 12 34 0 4 false
 
 abbrev pub newYear : Reading
-newYear = at 2017 1 1 1 0 0 2 true
+newYear = at 2017 1 1 1 0 0 4 true
 
 abbrev refusal : ℕ → ℕ → Refusal
 refusal code place = record { code = code; place = place }

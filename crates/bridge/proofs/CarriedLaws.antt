@@ -11,6 +11,7 @@ use Rattle.reading.specs.declared.Verdict.the-variants.{Good}
 use Rattle.reading.specs.Universal.{utcOf}
 use Rattle.reading.specs.Checks.{checkedOf}
 use Rattle.reading.proofs.CheckLaws.{Checked, checked-is, is-checked}
+use Rattle.irig.specs.Offset.{oddQuarter}
 use Rattle.bridge.specs.declared.Coasting.{Coasting}
 use Rattle.bridge.specs.declared.Coasting.the-variants.{Worse, Dropped}
 use Rattle.bridge.specs.Bridge.{pendingOf, qualityBy, graded, carriedBy}
@@ -44,6 +45,11 @@ module _ (r : Reading) where
     pub quality-carried : carriedBy way coasting r .quality ≡ qualityBy way coasting (r .quality)
     unfolding carriedBy graded
     quality-carried = refl
+
+    -- the string's own offset, so that what is an odd quarter stays one
+    pub quarter-carried : oddQuarter (carriedBy way coasting r .offset .0) ≡ oddQuarter (r .offset .0)
+    unfolding carriedBy graded pendingOf
+    quarter-carried = refl
 
 abbrev isWorse : Coasting → Bool
 isWorse Worse = true

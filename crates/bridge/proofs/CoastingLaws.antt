@@ -1,5 +1,5 @@
 -- What L7 asks of the bridge, and what it leaves: a string that coasts reads back from its frame with quality 15, and where the mark
--- does not stand or is dropped by name, the bridge is what it was before L7, byte for byte.
+-- does not stand or is dropped by name, the bridge is what it is without L7, byte for byte.
 use mathlib.Core.Bool.{Bool, true, false, cond}
 use mathlib.Core.List.{List}
 use mathlib.Core.Logic.{_⊎_, inl, inr, _↔_}
@@ -15,6 +15,7 @@ use Rattle.clock_string.specs.Reader.{readString, whichever}
 use Rattle.clock_string.proofs.ReadLaws.{Tells}
 use Rattle.irig.specs.declared.Answer.{Answer as Frame}
 use Rattle.irig.specs.declared.Answer.the-variants.{Time as Told, No as Untold}
+use Rattle.irig.specs.Offset.{oddQuarter}
 use Rattle.irig.specs.Faults.{frameLength, readFrame}
 use Rattle.bridge.specs.declared.Coasting.{Coasting}
 use Rattle.bridge.specs.declared.Coasting.the-variants.{Worse, Dropped}
@@ -29,15 +30,16 @@ qualityTold (Told r) = r .quality
 qualityTold (Untold x) = 0
 
 module _ (base : ℕ) (s buffer : List ℕ) where
-  module _ (enough : frameLength ≤ length buffer) (r : Reading) where
+  -- of a time that goes over at all, which an odd quarter does not
+  module _ (enough : frameLength ≤ length buffer) (r : Reading) (even : oddQuarter (r .offset .0) ≡ false) where
     -- "a bridged string with `*` gets quality 15"
     pub coasting-reads-worse : Tells base s r true → readFrame base (take frameLength (bridgeFilled Worse base s buffer)) ≡ Told (graded 15 (pendingOf r))
-    coasting-reads-worse e = frame-reads-back base s Worse buffer enough r true e ∙ ap Told (worse r)
+    coasting-reads-worse e = frame-reads-back base s Worse buffer enough r true e even ∙ ap Told (worse r)
 
     module _ (way : Coasting) (coasting : Bool) (tells : Tells base s r coasting) where
       -- and else it goes over as before, with its own quality
       pub else-reads-as-01 : (way ≡ Dropped) ⊎ (coasting ≡ false) → readFrame base (take frameLength (bridgeFilled way base s buffer)) ≡ Told (pendingOf r)
-      else-reads-as-01 h = frame-reads-back base s way buffer enough r coasting tells ∙ ap Told (go h)
+      else-reads-as-01 h = frame-reads-back base s way buffer enough r coasting tells even ∙ ap Told (go h)
         where
           go : (way ≡ Dropped) ⊎ (coasting ≡ false) → carriedBy way coasting r ≡ pendingOf r
           go (inl e) = rw e (dropped r coasting)
@@ -46,7 +48,7 @@ module _ (base : ℕ) (s buffer : List ℕ) where
       module _ (c : Reading) (read : readFrame base (take frameLength (bridgeFilled way base s buffer)) ≡ Told c) where
         -- the quality that is read back, either way
         pub quality-read-back : c .quality ≡ qualityBy way coasting (r .quality)
-        quality-read-back = ap qualityTold (sym read ∙ frame-reads-back base s way buffer enough r coasting tells) ∙ quality-carried r way coasting
+        quality-read-back = ap qualityTold (sym read ∙ frame-reads-back base s way buffer enough r coasting tells even) ∙ quality-carried r way coasting
 
         -- it is 15 exactly where the mark stands and the way is L7's, or where the string says 15 of itself
         pub fifteen-read-back : (c .quality ≡ 15) ↔ (((way ≡ Worse) × (coasting ≡ true)) ⊎ (r .quality ≡ 15))
@@ -60,7 +62,7 @@ module _ (base : ℕ) (s buffer : List ℕ) where
             go false h = refl
             go true h = absurd (h refl)
 
-  -- "unless the caller asks by name for the old way", which is the bridge before L7, whatever string and buffer are
+  -- "unless the caller asks by name for the old way", which is the bridge without L7, whatever string and buffer are
   pub dropped-is-01 : bridgeFilled Dropped base s buffer ≡ filled01 base s buffer
   unfolding bridgeFilled filled01
   dropped-is-01 = go (whichever (readString base s))

@@ -1,12 +1,12 @@
 -- What the bridge makes of a clock string, whichever it is: its answer, and what the lent buffer then holds. 01's paragraph as L7
--- amends it: what becomes of the coasting mark is the caller's to name.
+-- and L9 amend it: what becomes of the coasting mark is the caller's to name, and an odd quarter does not go over.
 use mathlib.Core.Bool.{Bool, cond, _&&_}
 use mathlib.Core.List.{List, _++_}
 use Prim.Native.Nat.{ℕ}
 use lib.Dec.{ltb}
 use lib.ListN.{length, drop}
 use Rattle.reading.specs.declared.Reading.{Reading}
-use Rattle.reading.specs.declared.Fault.the-variants.{Length}
+use Rattle.reading.specs.declared.Fault.the-variants.{Length, NotCarried}
 use Rattle.reading.specs.declared.Written.{Written}
 use Rattle.reading.specs.declared.Written.the-variants.{Length as Wrote, No as Refused}
 use Rattle.reading.specs.Faults.{number}
@@ -15,6 +15,7 @@ use Rattle.reading.specs.Leap.{leapWindow, changeWindow}
 use Rattle.strings.specs.declared.Answer.{Answer}
 use Rattle.strings.specs.declared.Answer.the-variants.{Time, No}
 use Rattle.clock_string.specs.Reader.{readString, whichever}
+use Rattle.irig.specs.Offset.{oddQuarter}
 use Rattle.irig.specs.Faults.{frameLength}
 use Rattle.irig.specs.Writing.{frameOf}
 use Rattle.bridge.specs.declared.Coasting.{Coasting}
@@ -66,14 +67,16 @@ graded quality r =
 unfoldable pub carriedBy : Coasting → Bool → Reading → Reading
 carriedBy way coasting r = graded (qualityBy way coasting (r .quality)) (pendingOf r)
 
--- the answer where there is room, whichever way: the length of a frame, or the string's own refusal
+-- the answer where there is room, whichever way: the string's own refusal; of a string that says a time the length of a frame, but
+-- by L9 "an odd quarter at .. the bridge is 11"
 abbrev pub answerFor : Answer → Written
-answerFor (Time r coasting) = Wrote frameLength
+answerFor (Time r coasting) = cond (oddQuarter (r .offset .0)) (Refused (number NotCarried)) (Wrote frameLength)
 answerFor (No refusal) = Refused refusal
 
 -- the buffer where there is room: the frame before the rest; a refusal leaves it as it was
 abbrev pub bytesFor : Coasting → Answer → List ℕ → List ℕ
-bytesFor way (Time r coasting) buffer = frameOf (carriedBy way coasting r) ++ drop frameLength buffer
+bytesFor way (Time r coasting) buffer =
+    cond (oddQuarter (r .offset .0)) buffer (frameOf (carriedBy way coasting r) ++ drop frameLength buffer)
 bytesFor way (No refusal) buffer = buffer
 
 -- "The bridge checks output length first." By L1 it "loses its kind argument": the string is read by its length. L7: "Refusals:

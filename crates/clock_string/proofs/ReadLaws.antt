@@ -14,13 +14,14 @@ use Rattle.reading.specs.declared.Fault.the-variants.{Length, Byte}
 use Rattle.reading.specs.declared.Verdict.the-variants.{Good}
 use Rattle.reading.specs.Faults.{number}
 use Rattle.reading.specs.Checks.{checkedOf}
+use Rattle.reading.proofs.OffsetLaws.{WholeHours}
 use Rattle.reading.proofs.CheckLaws.{clash}
 use Rattle.strings.specs.declared.Answer.{Answer as Said}
 use Rattle.strings.specs.declared.Answer.the-variants.{Time, No as Refused}
 use Rattle.meinberg.specs.Layout.{textLength, layout as meinbergLayout}
 use Rattle.meinberg.specs.Meaning.{readMeinberg}
 use Rattle.meinberg.proofs.ReadLaws.{lowest-bad-byte as lowest-bad-of-meinberg}
-use Rattle.meinberg.proofs.RoundTrip.{accepted-length as meinberg-length, accepted-checked as meinberg-checked}
+use Rattle.meinberg.proofs.RoundTrip.{accepted-length as meinberg-length, accepted-checked as meinberg-checked, accepted-whole-hours}
 use Rattle.erlangen.specs.Layout.{size, layout as erlangenLayout}
 use Rattle.erlangen.specs.Meaning.{readErlangen}
 use Rattle.erlangen.proofs.Promises.{accepted-length as erlangen-length, accepted-checked as erlangen-checked, lowest-bad-byte as lowest-bad-of-erlangen}
@@ -96,6 +97,10 @@ module _ (base : ℕ) (s : List ℕ) (r : Reading) (coasting : Bool) where
       go (meinberg h w) = absurd (not-erlangen (readMeinberg base s) r coasting (sym w ∙ e))
       go (erlangen h w) = (h, from-erlangen (readErlangen base s) r coasting (sym w ∙ e))
       go (neither w) = let z : _≡_ {A = ℕ} 0 1 = cc in clash z
+
+  -- at whole hours from UTC, which its three zones are
+  pub meinberg-whole-hours : readString base s ≡ Meinberg r coasting → WholeHours (r .offset .0)
+  meinberg-whole-hours e = accepted-whole-hours base s r coasting (is-meinberg e .1)
 
   -- and all that either of them says is answered
   pub meinberg-told : readMeinberg base s ≡ Time r coasting → readString base s ≡ Meinberg r coasting

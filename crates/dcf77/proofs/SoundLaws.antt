@@ -16,12 +16,12 @@ use Rattle.reading.specs.declared.Verdict.the-variants.{Good, Bad}
 use Rattle.reading.specs.Universal.{dateOf}
 use Rattle.reading.specs.Checks.{hourBad, minuteBad, dayBad, monthBad, weekdayWrong}
 use Rattle.reading.proofs.CheckLaws.{first-good, date-there, date-parts, weekday-there, weekday-fits}
+use Rattle.reading.proofs.WrittenLaws.{then-good}
 use Rattle.pulses.specs.Row.{overNine}
 use Rattle.dcf77_table.specs.Table.{zone, minutes, hours, days, weekday, months, years, tensOfYears}
 use Rattle.dcf77.specs.Zones.{zoneBad}
 use Rattle.dcf77.specs.Forms.{lastOf, dueLong, minutePlace, minuteParityPlace, hourPlace, hourParityPlace, dayPlace, dateParityPlace}
 use Rattle.dcf77.specs.Reader.{isLong, digitFault, odd, parityFault, fieldFault, ruleFault, saidFault}
-use Rattle.dcf77.proofs.WriteLaws.{both-good}
 
 -- the six digits that could be over 9
 pub record Digits (v : List ℕ) : Type 0 where
@@ -146,9 +146,9 @@ module _ (s v : List ℕ) (r : Reading) where
   pub sound : saidFault s v r ≡ Good → Sound s v r
   unfolding saidFault
   sound e =
-      let a = both-good (digitFault v) _ e in
-      let b = both-good (parityFault s) _ (a .1) in
-      let c = both-good (fieldFault r (getD v weekday 0)) _ (b .1) in
+      let a = then-good (digitFault v) _ e in
+      let b = then-good (parityFault s) _ (a .1) in
+      let c = then-good (fieldFault r (getD v weekday 0)) _ (b .1) in
       record {
         digits = digits-good v (a .0);
         evens = evens-good s (b .0);

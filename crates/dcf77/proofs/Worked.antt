@@ -37,7 +37,7 @@ winter y m d h n announced =
       hour = h;
       minute = n;
       second = 0;
-      offset = record { 0 = pos 2 };
+      offset = record { 0 = pos 4 };
       summer = false;
       leap = announced;
       change = false;
@@ -46,7 +46,7 @@ winter y m d h n announced =
 
 -- ---- case 8
 
--- 2024-02-29 12:34, offset +2
+-- 2024-02-29 12:34, an hour ahead of UTC
 pub case-8 : Reading
 case-8 = winter 2024 2 29 12 34 false
 

@@ -16,8 +16,9 @@ use Rattle.reading.specs.declared.Verdict.{Verdict}
 use Rattle.reading.specs.declared.Verdict.the-variants.{Good, Bad}
 use Rattle.reading.specs.Checks.{timeBad, dateBad, qualityBad, checkedOf}
 use Rattle.reading.specs.declared.Written.{Written}
-use Rattle.reading.specs.Writing.{andThen, writtenOf, filled}
+use Rattle.reading.specs.Writing.{writtenOf, filled}
 use Rattle.reading.proofs.CheckLaws.{first-good, clash}
+use Rattle.reading.proofs.WrittenLaws.{then-good}
 use Rattle.pulses.specs.Row.{row, laid}
 use Rattle.pulses.proofs.RowLaws.{length-row, enough}
 use Rattle.dcf77_table.specs.Table.{minuteMarks}
@@ -25,11 +26,6 @@ use Rattle.dcf77_table.proofs.TableLaws.{marks-length}
 use Rattle.dcf77.specs.Zones.{offsetIn}
 use Rattle.dcf77.specs.Forms.{lengthOf, dueLong}
 use Rattle.dcf77.specs.Writer.{valuesOf, bytesOf, headBad, checkedWith, notCarried, carryFault, isGood, needed, roomFault, writeFault}
-
--- the first verdict and the rest are good
-pub both-good : (v w : Verdict) → andThen v w ≡ Good → (v ≡ Good) × (w ≡ Good)
-both-good Good w e = (refl, e)
-both-good (Bad x) w e = let z : _≡_ {A = ℕ} 0 1 = cc in clash z
 
 -- ---- the marks and their length
 
@@ -93,7 +89,7 @@ module _ (base : ℕ) (r : Reading) (h : ℕ) where
   pub carried : carryFault base r h ≡ Good → Carried base r h
   unfolding carryFault
   carried e =
-      let a = both-good (checkedWith base r h) _ e in
+      let a = then-good (checkedWith base r h) _ e in
       let b = head-checked (headBad h) refl (a .0) in
       let c = carried-rest (first-good (notCarried r) _ _ (a .1) .0) in
       record { checked = b .1; head = head-small (b .0); second = c .0; quality = c .1; offset = c .2 }

@@ -4,9 +4,9 @@ use Prim.Native.Nat.{ℕ}
 use lib.Dec.{eqb}
 use lib.IntN.{ℤ, pos}
 
--- local time is two half hours ahead of UTC, and in summer four
+-- "+2 half hours", and in summer "+4": by L9 these double, to quarter hours
 unfoldable pub offsetIn : Bool → ℤ
-offsetIn summer = cond summer (pos 4) (pos 2)
+offsetIn summer = cond summer (pos 8) (pos 4)
 
 -- what the marks 17 and 18 add up to: they are 0,1 and in summer 1,0
 unfoldable pub zoneOf : Bool → ℕ

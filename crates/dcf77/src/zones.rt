@@ -1,11 +1,11 @@
-// The two zones: each has its offset, and its marks 17 and 18 as a number.
+// The two zones: each has its offset, in quarter hours, and its marks 17 and 18 as a number.
 use reading::LocalMinusUtc;
 ghost use mathlib.Core.Path.{_≡_};
 ghost use Rattle.dcf77.specs.Zones.{offsetIn, zoneOf};
 
-const WINTER: i8 = 2;
+const WINTER: i8 = 4;
 
-const SUMMER: i8 = 4;
+const SUMMER: i8 = 8;
 
 pub fn offset_in(summer: bool) -> LocalMinusUtc
     ensures { λ r. ⌜ r ≡ record { 0 = offsetIn summer } ⌝ }

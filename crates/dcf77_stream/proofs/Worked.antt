@@ -35,7 +35,7 @@ marks8 =
     ∷ 0 ∷ 0 ∷ 1 ∷ 0 ∷ 0 ∷ 1 ∷ 0 ∷ 0 ∷ 1 ∷ 2
     ∷ []
 
--- 2024-02-29 12:34, offset +2
+-- 2024-02-29 12:34, an hour ahead of UTC
 abbrev case8 : Reading
 case8 = record {
   year = 2024;
@@ -44,7 +44,7 @@ case8 = record {
   hour = 12;
   minute = 34;
   second = 0;
-  offset = record { 0 = pos 2 };
+  offset = record { 0 = pos 4 };
   summer = false;
   leap = false;
   change = false;

@@ -16,9 +16,9 @@ use Rattle.reading.specs.declared.Fault.the-variants.{Length, Byte}
 use Rattle.reading.specs.declared.Verdict.{Verdict}
 use Rattle.reading.specs.declared.Verdict.the-variants.{Good, Bad}
 use Rattle.reading.specs.Faults.{number}
-use Rattle.reading.specs.Writing.{andThen}
 use Rattle.reading.specs.Checks.{checkedOf}
-use Rattle.reading.proofs.CheckLaws.{clash, first-good}
+use Rattle.reading.proofs.CheckLaws.{first-good}
+use Rattle.reading.proofs.WrittenLaws.{then-good}
 use Rattle.strings.specs.declared.Answer.the-variants.{No}
 use Rattle.strings.specs.Checks.{faultOf, answerOf}
 use Rattle.strings.proofs.CheckLaws.{Sound, sound, faultless}
@@ -81,10 +81,6 @@ pub record Carried (base : ℕ) (r : Reading) (position : List ℕ) (room : ℕ)
   pub printing : printables position ≡ length position
   pub checked : checkedOf base r ≡ Good
   pub quality : notCarried (r .quality) ≡ false
-
-then-good : (v w : Verdict) → andThen v w ≡ Good → (v ≡ Good) × (w ≡ Good)
-then-good Good w e = (refl, e)
-then-good (Bad x) w e = let z : _≡_ {A = ℕ} 0 1 = cc in clash z
 
 module _ (base : ℕ) (r : Reading) (position : List ℕ) (room : ℕ) where
   pub carried-is : writeFault base r position room ≡ Good → Carried base r position room

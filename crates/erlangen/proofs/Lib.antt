@@ -8,5 +8,6 @@ pub mod WriteLaws
 pub mod Promises
 pub mod Unique
 pub mod Worked
+pub mod QuarterLaws
 pub mod StandIns
 pub mod OwedLaws

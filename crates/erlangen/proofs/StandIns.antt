@@ -20,14 +20,11 @@ use Rattle.erlangen.specs.Layout.{size, layout}
 use Rattle.erlangen.specs.Meaning.{faultIn, readErlangen}
 use Rattle.erlangen.specs.Writing.{bytesOf, writeFault}
 use Rattle.erlangen.proofs.Promises.{written-reads, bytes-read}
-use Rattle.erlangen.proofs.Worked.{usual, ahead, none, string, hourAhead, reading, worked-carried, worked-read}
-
-abbrev spaces : List ℕ
-spaces = replicate 26 32
+use Rattle.erlangen.proofs.Worked.{usual, ahead, none, spaces, string, hourAhead, reading, worked-carried, worked-read}
 
 different : reading hourAhead ≡ reading (pos 0) → ⊥
 unfolding reading
-different e = let z : hourAhead ≡ pos 0 = ap (λ (r : Reading). r .offset .0) e in let n : _≡_ {A = ℕ} 2 0 = cc in omega arith
+different e = let z : hourAhead ≡ pos 0 = ap (λ (r : Reading). r .offset .0) e in let n : _≡_ {A = ℕ} 4 0 = cc in omega arith
 
 zeros-refused : readErlangen base (replicate size 0) ≡ No (number (Byte 0))
 unfolding readErlangen faultIn layout goodPlaces allowed within beside exactly from either packed

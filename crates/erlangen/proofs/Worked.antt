@@ -63,9 +63,12 @@ none = letters 32 32 32 32 32 32
 abbrev leapMark : List ℕ
 leapMark = letters 32 32 32 32 32 76
 
+abbrev pub spaces : List ℕ
+spaces = replicate 26 32
+
 -- the string of a date and time, an offset and letters, with a position of spaces
 pub string : List ℕ → List ℕ → List ℕ → List ℕ
-string time offset flags = (2 ∷ time) ++ offset ++ (59 ∷ 32 ∷ flags) ++ (59 ∷ 32 ∷ []) ++ replicate 26 32 ++ (3 ∷ [])
+string time offset flags = (2 ∷ time) ++ offset ++ (59 ∷ 32 ∷ flags) ++ (59 ∷ 32 ∷ []) ++ spaces ++ (3 ∷ [])
 
 -- 2024-02-29 12:34:56 at an offset, with a summer flag, a leap second or a change announced, and a quality
 abbrev flagged : ℤ → Bool → Bool → Bool → ℕ → Reading
@@ -105,16 +108,16 @@ atLeapSecond = record {
 
 -- an hour ahead of UTC
 abbrev pub hourAhead : ℤ
-hourAhead = pos 2
+hourAhead = pos 4
 
 abbrev refused : ℕ → ℕ → Answer
 refused code place = No (record { code = code; place = place })
 
-pub worked-bytes : bytesOf (reading hourAhead) false (replicate 26 32) ≡ string usual (ahead 0 1 0 0) none
+pub worked-bytes : bytesOf (reading hourAhead) false spaces ≡ string usual (ahead 0 1 0 0) none
 unfolding reading string bytesOf dateBytes timeBytes offsetBytes flagBytes isBehind minutesOf west east tens ones weekdayOf dayNumber dayOfYear daysBeforeYear daysBefore daysIn yearLength leapYear
 worked-bytes = refl
 
-pub worked-carried : writeFault base (reading hourAhead) (replicate 26 32) size ≡ Good
+pub worked-carried : writeFault base (reading hourAhead) spaces size ≡ Good
 unfolding reading writeFault lengthBad carriedOf notCarried printables printable checkedOf timeBad dateBad inHundred isDate isMonth isDay lastDay daysIn leapYear offsetGood west east sixtyBad
 worked-carried = refl
 
@@ -122,6 +125,12 @@ worked-carried = refl
 abbrev accepted : List (List ℕ)
 accepted =
     string usual (ahead 1 4 0 0) none ∷ string usual (behind 1 2 0 0) none ∷ string sixty (ahead 0 0 0 0) leapMark ∷ []
+
+-- L9: "minutes 00, 15, 30 and 45", `+05:45` and `-09:30` among them, and the least to either side
+abbrev quarters : List (List ℕ)
+quarters =
+    string usual (ahead 0 5 0 0) none ∷ string usual (ahead 0 5 1 5) none ∷ string usual (ahead 0 5 3 0) none ∷ string usual (ahead 0 5 4 5) none
+    ∷ string usual (behind 0 9 3 0) none ∷ string usual (ahead 0 0 1 5) none ∷ string usual (behind 0 0 1 5) none ∷ []
 
 -- `#`, `*`, `S`, `!` and `A`, each alone
 abbrev lettered : List (List ℕ)
@@ -135,11 +144,12 @@ abbrev out-of-range : List (List ℕ)
 out-of-range =
     string (on 0 2 0) (ahead 0 1 0 0) none ∷ string (on 0 2 8) (ahead 0 1 0 0) none ∷ string (on 1 3 4) (ahead 0 0 1 0) none ∷ []
 
--- strings that say no offset: `+14:30`, `-12:30`, `-00:00`, `+00:60`, `+99:99`, `+01:01`
+-- strings that say no offset: `+14:15`, `-12:15`, `-00:00`, `+05:60`, `+99:99`, `+01:01`, `+05:20`, `+05:50`
 abbrev offset-wrong : List (List ℕ)
 offset-wrong =
-    string usual (ahead 1 4 3 0) none ∷ string usual (behind 1 2 3 0) none ∷ string usual (behind 0 0 0 0) none
-    ∷ string usual (ahead 0 0 6 0) none ∷ string usual (ahead 9 9 9 9) none ∷ string usual (ahead 0 1 0 1) none ∷ []
+    string usual (ahead 1 4 1 5) none ∷ string usual (behind 1 2 1 5) none ∷ string usual (behind 0 0 0 0) none
+    ∷ string usual (ahead 0 5 6 0) none ∷ string usual (ahead 9 9 9 9) none ∷ string usual (ahead 0 1 0 1) none
+    ∷ string usual (ahead 0 5 2 0) none ∷ string usual (ahead 0 5 5 0) none ∷ []
 
 -- a leap second without its mark, a mark without its leap second, and a leap second an hour too late
 abbrev leap-wrong : List (List ℕ)
@@ -149,14 +159,17 @@ pub worked-read :
     (readErlangen base (string usual (ahead 0 1 0 0) none) ≡ Time (reading hourAhead) false)
     × (readErlangen base (string usual (ahead 0 0 0 0) none) ≡ Time (reading (pos 0)) false)
     × (map (readErlangen base) accepted
-    ≡ Time (reading (pos 28)) false ∷ Time (reading (negsuc 23)) false ∷ Time atLeapSecond false ∷ [])
+    ≡ Time (reading (pos 56)) false ∷ Time (reading (negsuc 47)) false ∷ Time atLeapSecond false ∷ [])
+    × (map (readErlangen base) quarters
+    ≡ Time (reading (pos 20)) false ∷ Time (reading (pos 21)) false ∷ Time (reading (pos 22)) false ∷ Time (reading (pos 23)) false
+    ∷ Time (reading (negsuc 37)) false ∷ Time (reading (pos 1)) false ∷ Time (reading (negsuc 0)) false ∷ [])
     × (map (readErlangen base) lettered
-    ≡ Time (flagged (pos 2) false false false 15) false ∷ Time (flagged (pos 2) false false false 0) true ∷ Time (flagged (pos 4) true false false 0) false
-    ∷ Time (flagged (pos 2) false false true 0) false ∷ Time (flagged (pos 2) false true false 0) false ∷ [])
+    ≡ Time (flagged (pos 4) false false false 15) false ∷ Time (flagged (pos 4) false false false 0) true ∷ Time (flagged (pos 8) true false false 0) false
+    ∷ Time (flagged (pos 4) false false true 0) false ∷ Time (flagged (pos 4) false true false 0) false ∷ [])
     × (readErlangen base (string usual (ahead 0 1 0 0) (letters 37 32 32 32 32 32)) ≡ refused 2 32)
     × (map (readErlangen base) out-of-range ≡ refused 16 11 ∷ refused 16 11 ∷ refused 16 4 ∷ [])
     × (readErlangen base (string (on 0 2 3) (behind 0 0 0 0) none) ≡ refused 6 11)
-    × (map (readErlangen base) offset-wrong ≡ replicate 6 (refused 8 24))
+    × (map (readErlangen base) offset-wrong ≡ replicate 8 (refused 8 24))
     × (map (readErlangen base) leap-wrong ≡ replicate 3 (refused 9 20))
 unfolding reading string readErlangen faultIn readingOf coastingSaid weekdaySaid offsetWrong markWrong shows layout goodPlaces allowed within beside exactly from either packed digit pair yearOf offsetOf offsetBad wholeUnits unitsOf tooFar signed faultOf dayBad monthBad weekdayBad weekdayWrong sixtyBad leapMinute closesWithLeap utcOf utcMinutes onDay west east isMonth isDay lastDay weekdayOf dayNumber dayOfYear daysBeforeYear daysBefore daysIn yearLength leapYear number
-worked-read = (refl, refl, refl, refl, refl, refl, refl, refl, refl)
+worked-read = (refl, refl, refl, refl, refl, refl, refl, refl, refl, refl)

@@ -5,7 +5,7 @@ use lib.Dec.{eqb, ltb}
 use lib.IntN.{ℤ, pos}
 use Rattle.reading.specs.Offset.{unit, westmost, eastmost, west, east, opposite}
 
--- minutes of an hour that are whole units
+-- minutes of an hour that are whole units: "minutes 00, 15, 30 and 45"
 unfoldable pub wholeUnits : ℕ → Bool
 wholeUnits minutes = ltb minutes 60 && eqb (minutes % unit) 0
 
@@ -17,7 +17,7 @@ unitsOf hours minutes = (60 * hours + minutes) / unit
 unfoldable pub tooFar : Bool → ℕ → Bool
 tooFar behind units = ltb (cond behind westmost eastmost) units
 
--- "offset out of range, not half hours, minus zero"
+-- "offset out of range, not quarter hours, minus zero": 01's sentence as L9 amends it
 unfoldable pub offsetBad : Bool → ℕ → ℕ → Bool
 offsetBad behind hours minutes =
     not (wholeUnits minutes) || (behind && eqb (unitsOf hours minutes) 0 || tooFar behind (unitsOf hours minutes))

@@ -63,7 +63,7 @@ pub(crate) fn is_behind(offset: LocalMinusUtc) -> bool
 
 pub(crate) fn minutes_of(offset: LocalMinusUtc) -> u16
     ensures { λ r. ⌜ r ≡ minutesOf (offset .0) ⌝ }
-    ensures { λ r. ⌜ r < 7680 ⌝ }
+    ensures { λ r. ⌜ r < 3840 ⌝ }
 {
     UNIT * (offset.west() + offset.east())
 }

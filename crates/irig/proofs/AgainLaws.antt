@@ -1,8 +1,8 @@
--- The reading of values in which no fault is found: it passes the checks, and lays those values again.
+-- The reading of values in which no fault is found: a frame carries it, and it lays those values again.
 use mathlib.Core.Path.{_≡_, refl, sym, ap, subst, _∙_}
 use mathlib.Core.Bool.{true}
 use mathlib.Core.List.{List}
-use Prim.Native.Nat.{ℕ, _+_, _-_, _%_, _^_, _<_}
+use Prim.Native.Nat.{ℕ, _+_, _-_, _*_, _%_, _^_, _<_}
 use native.Mathlib.Omega.{arith}
 use native.Mathlib.Decide.{decLt}
 use borrow.Author.Tests.{eqb-false}
@@ -16,20 +16,20 @@ use Rattle.calendar.proofs.DateLaws.{is-date}
 use Rattle.calendar.proofs.TableLaws.{OnDay, on-day, of-year}
 use Rattle.reading.specs.declared.Reading.{Reading}
 use Rattle.reading.specs.Years.{inHundred}
-use Rattle.reading.specs.Offset.{opposite}
+use Rattle.reading.specs.Offset.{west, east, opposite}
 use Rattle.reading.specs.Universal.{dateOf}
 use Rattle.reading.proofs.YearLaws.{digits-of, year-in}
-use Rattle.reading.proofs.CheckLaws.{Checked}
 use Rattle.pulses.specs.Row.{groups, firstData, bit}
 use Rattle.pulses.proofs.BitLaws.{bit-there}
 use Rattle.irig_table.specs.Table.{leapPending, deletion, changePending, summer, minus, offsetHours, halfHour, quality, parity}
 use Rattle.irig_table.proofs.TableLaws.{widths}
-use Rattle.irig.specs.Offset.{isMinus, halvesOf}
+use Rattle.irig.specs.Offset.{perHalf, isMinus, halvesOf}
 use Rattle.irig.specs.Meaning.{said, isSet, secondIn, minuteIn, hourIn, dayIn, digitsIn, halvesIn, addedIn, yearIn, monthDayIn, readingOf}
 use Rattle.irig.specs.Writing.{groupsOf, valuesOf}
 use Rattle.irig.proofs.Each.{Each, each, each-at}
 use Rattle.irig.proofs.GroupLaws.{Values}
-use Rattle.irig.proofs.OffsetLaws.{sign-back, halves-back, local-of-amount}
+use Rattle.irig.proofs.OffsetLaws.{sign-back, halves-back, local-of-amount, twice-the-halves}
+use Rattle.irig.proofs.CarriedLaws.{Carried}
 use Rattle.irig.proofs.FieldLaws.{Digits, Sound}
 
 -- the groups from 24 on have no pulses
@@ -84,19 +84,32 @@ module _ (base : ℕ) (v : List ℕ) (w : Values v) (d : Digits v) (s : Sound ba
     quality-high = w .fits quality (omega arith) (omega arith);
   }
 
-  -- the reading passes the checks
-  pub reading-checked : Checked base r
-  unfolding readingOf
-  reading-checked = record {
-    hour = s .hour;
-    minute = s .minute;
-    second = s .second;
-    year = year-good;
-    date = date-good;
-    quality = omega (arith, bounds .quality-high);
-    offset = s .offset;
-    leap = s .leap;
+  -- the pulses say few half hours
+  halves-small : perHalf * halvesIn v < 128
+  unfolding halvesIn
+  halves-small = omega (arith, bounds .hours, bounds .half)
+
+  -- the reading passes the checks, at no odd quarter
+  pub reading-carried : Carried base r
+  unfolding readingOf addedIn
+  reading-carried = record {
+    checked = record {
+      hour = s .hour;
+      minute = s .minute;
+      second = s .second;
+      year = year-good;
+      date = date-good;
+      quality = omega (arith, bounds .quality-high);
+      offset = s .offset;
+      leap = s .leap;
+    };
+    even = twice-the-halves (isSet v minus) (halvesIn v) halves-small .1;
   }
+
+  -- its quarter hours are twice those half hours
+  pub offset-twice : west (r .offset .0) + east (r .offset .0) ≡ perHalf * halvesIn v
+  unfolding readingOf addedIn
+  offset-twice = twice-the-halves (isSet v minus) (halvesIn v) halves-small .0
 
   -- ---- and lays the same values
 
@@ -109,8 +122,8 @@ module _ (base : ℕ) (v : List ℕ) (w : Values v) (d : Digits v) (s : Sound ba
   digits-again = digits-of base (digitsIn v) ∙ omega (arith, d .year, d .tens-of-year)
 
   offset-again : opposite (r .offset .0) ≡ addedIn v
-  unfolding readingOf addedIn halvesIn
-  offset-again = local-of-amount (isSet v minus) (halvesIn v) (omega (arith, bounds .hours, bounds .half))
+  unfolding readingOf addedIn
+  offset-again = local-of-amount (isSet v minus) (halvesIn v) halves-small
 
   sign-again : isMinus (opposite (r .offset .0)) ≡ isSet v minus
   unfolding addedIn

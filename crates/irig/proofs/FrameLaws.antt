@@ -1,5 +1,5 @@
--- The frame of a reading that passes the checks is read as that reading, and a frame that is read is the frame of its
--- reading. Both hold for any base year.
+-- The frame of a reading that a frame carries is read as that reading, and a frame that is read is the frame of its reading,
+-- which it carries. Both hold for any base year.
 use mathlib.Core.Path.{_≡_, refl, sym, ap, subst, _∙_}
 use mathlib.Core.Bool.{false, not}
 use mathlib.Core.List.{List}
@@ -11,7 +11,7 @@ use lib.ListN.{length, getD}
 use Rattle.reading.specs.declared.Reading.{Reading}
 use Rattle.reading.specs.declared.Verdict.{Verdict}
 use Rattle.reading.specs.declared.Verdict.the-variants.{Good, Bad}
-use Rattle.reading.proofs.CheckLaws.{first-good, clash, Checked}
+use Rattle.reading.proofs.CheckLaws.{first-good, clash}
 use Rattle.pulses.specs.Row.{goodPulses, sumsOf, row, onesFrom}
 use Rattle.pulses.proofs.GoodLaws.{good-in-table}
 use Rattle.pulses.proofs.RowLaws.{row-good}
@@ -24,14 +24,15 @@ use Rattle.irig.specs.Faults.{frameLength, parityPlace, isOdd, faultIn, 
 use Rattle.irig.specs.Writing.{valuesOf, beforeParity, parityOf, frameOf}
 use Rattle.irig.proofs.GroupLaws.{sums-fit, sums-of-row}
 use Rattle.irig.proofs.FieldLaws.{Digits, Sound, values-sound, sound-values}
+use Rattle.irig.proofs.CarriedLaws.{Carried}
 use Rattle.irig.proofs.ValueLaws.{values-fit, reading-back, values-digits, values-are-sound}
-use Rattle.irig.proofs.AgainLaws.{reading-checked, values-again}
+use Rattle.irig.proofs.AgainLaws.{reading-carried, values-again}
 use Rattle.irig.proofs.ParityLaws.{same-ones, parity-pulse, parity-is, parity-small, frame-even, parity-right}
 use Rattle.irig.proofs.WriteLaws.{length-frame}
 
 -- ---- write, read
 
-module _ (base : ℕ) (r : Reading) (c : Checked base r) where
+module _ (base : ℕ) (r : Reading) (c : Carried base r) where
   frame-sums : sumsOf framePulses (frameOf r) ≡ valuesOf r (parityOf r)
   unfolding frameOf
   frame-sums = sums-of-row (valuesOf r (parityOf r)) (values-fit base r (parityOf r) c (parity-small r))
@@ -95,9 +96,9 @@ module _ (base : ℕ) (s : List ℕ) (r : Reading) (a : Accepted base s r) where
   v : List ℕ
   v = sumsOf framePulses s
 
-  pub reading-is-checked : Checked base r
-  reading-is-checked =
-      subst (Checked base) (a .is) (reading-checked base (sumsOf framePulses s) (sums-fit s) (a .digits) (a .sound))
+  pub reading-is-carried : Carried base r
+  reading-is-carried =
+      subst (Carried base) (a .is) (reading-carried base (sumsOf framePulses s) (sums-fit s) (a .digits) (a .sound))
 
   -- the values of its groups are those of the reading, with the parity that it has
   same-values : valuesOf r (said v parity) ≡ v

@@ -1,6 +1,7 @@
 pub mod Each
 pub mod AmountLaws
 pub mod OffsetLaws
+pub mod CarriedLaws
 pub mod GroupLaws
 pub mod FieldLaws
 pub mod ValueLaws
@@ -10,6 +11,7 @@ pub mod WriteLaws
 pub mod RefusalLaws
 pub mod FrameLaws
 pub mod RoundTrip
+pub mod QuarterLaws
 pub mod Unique
 pub mod Worked
 pub mod StandIns

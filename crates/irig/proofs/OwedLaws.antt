@@ -1,24 +1,25 @@
 -- The code and place of each refusal: the first of the order of the codes whose condition holds, and its lowest place.
-use mathlib.Core.List.{List}
+use mathlib.Core.List.{List, []}
 use mathlib.Core.Path.{_≡_, refl}
 use Prim.Native.Nat.{ℕ}
 use lib.Dec.{ltb}
 use Rattle.reading.specs.declared.Reading.{Reading}
 use Rattle.reading.specs.declared.Refusal.{Refusal}
-use Rattle.reading.specs.declared.Fault.the-variants.{Length}
+use Rattle.reading.specs.declared.Fault.the-variants.{Length, NotCarried}
 use Rattle.reading.specs.declared.Verdict.{Verdict}
 use Rattle.reading.specs.declared.Verdict.the-variants.{Good, Bad}
 use Rattle.reading.specs.Writing.{writtenOf}
 use Rattle.reading.specs.Refusals.{Objection, Owed}
 use Rattle.reading.specs.Objections.{checkObjections, readingObjections, WrittenOwed}
-use Rattle.reading.proofs.RefusalLaws.{Through, none, judged, VerdictOwed, always-at-0, verdict-owed}
+use Rattle.reading.proofs.RefusalLaws.{Through, none, judged, one-then-other, VerdictOwed, always-at-0, verdict-owed}
 use Rattle.reading.proofs.OneDue.{owed-one}
 use Rattle.reading.proofs.OwedLaws.{checked-through, written-owed}
 use Rattle.pulses.specs.Row.{sumsOf}
 use Rattle.irig_table.specs.Table.{framePulses}
 use Rattle.irig.specs.Meaning.{readingOf}
 use Rattle.irig.specs.Faults.{frameLength, fieldsFault, valuesFault, faultIn, answerOf, readFrame}
-use Rattle.irig.specs.Writing.{writeFault}
+use Rattle.irig.specs.Offset.{oddQuarter}
+use Rattle.irig.specs.Writing.{carriedOf, writeFault}
 use Rattle.irig.specs.Objections.{saidObjections, readObjections, writeObjections, readCodes, writeCodes, AnswerOwed}
 
 answer-owed : (l : List Objection) (codes : List ℕ) (v : Verdict) (r : Reading) → VerdictOwed l codes v → AnswerOwed l codes (answerOf v r)
@@ -35,12 +36,18 @@ read-owed base s =
     answer-owed (readObjections base s) readCodes (faultIn base s) (readingOf base (sumsOf framePulses s))
     (verdict-owed readCodes (read-through base s) refl refl)
 
+write-through : (base : ℕ) (r : Reading) (room : ℕ) → Through (writeObjections base r room) (writeFault base r room)
+unfolding writeObjections writeFault carriedOf
+write-through base r room =
+    judged (ltb room frameLength) Length 1 0 _ _ refl refl
+    (one-then-other (checked-through base r) (judged (oddQuarter (r .offset .0)) NotCarried 11 0 [] Good refl refl none))
+
 pub write-owed : (base : ℕ) (r : Reading) (room : ℕ)
     → WrittenOwed (writeObjections base r room) writeCodes (writtenOf (writeFault base r room) frameLength)
-unfolding writeObjections readingObjections checkObjections writeFault
+unfolding writeObjections readingObjections checkObjections
 write-owed base r room =
     written-owed (writeObjections base r room) writeCodes (writeFault base r room) frameLength
-    (verdict-owed writeCodes (judged (ltb room frameLength) Length 1 0 _ _ refl refl (checked-through base r)) refl refl)
+    (verdict-owed writeCodes (write-through base r room) refl refl)
 
 -- ---- which fixes the refusal, and a writer's is at place 0
 

@@ -1,5 +1,5 @@
 -- What document 01 demands of the IEEE 1344 frame, for any base year: writing and reading are inverse, a frame is accepted
--- exactly where it is the frame of a reading that passes the checks, and such a reading is stamped or refused by 12.
+-- exactly where it is the frame of a reading that its writer carries, and such a reading is stamped or refused by 12.
 use mathlib.Core.Path.{_≡_, refl, sym, ap, _∙_}
 use mathlib.Core.Bool.{Bool, true, false}
 use mathlib.Core.List.{List, _++_}
@@ -20,7 +20,6 @@ use Rattle.reading.specs.Offset.{unit, east}
 use Rattle.reading.specs.Universal.{utcOf}
 use Rattle.reading.specs.Checks.{checkedOf}
 use Rattle.reading.specs.Stamps.{hasStamp, stampNumber, stampOf}
-use Rattle.reading.proofs.CheckLaws.{checked-is, is-checked}
 use Rattle.reading.proofs.WrittenLaws.{length-is}
 use Rattle.reading.proofs.StampLaws.{is-stamp, refused-by-12}
 use Rattle.pulses.specs.Row.{groupOf, weightOf, bit}
@@ -30,10 +29,11 @@ use Rattle.irig_table.specs.Table.{framePulses}
 use Rattle.irig_table.proofs.TableLaws.{frame-length}
 use Rattle.irig.specs.declared.Answer.the-variants.{Time}
 use Rattle.irig.specs.Faults.{frameLength, signPlace, readFrame}
-use Rattle.irig.specs.Writing.{groupsOf, valuesOf, parityOf, frameOf, writeFault}
+use Rattle.irig.specs.Writing.{groupsOf, valuesOf, parityOf, frameOf, carriedOf, writeFault}
 use Rattle.irig.proofs.OffsetLaws.{minus-ahead}
+use Rattle.irig.proofs.CarriedLaws.{carried-parts, carried-is, is-carried}
 use Rattle.irig.proofs.WriteLaws.{room-enough, writable, written-frame, front}
-use Rattle.irig.proofs.FrameLaws.{frame-read, accepted, reading-is-checked, frame-again}
+use Rattle.irig.proofs.FrameLaws.{frame-read, accepted, reading-is-carried, frame-again}
 
 -- WRITE, READ: what is written, into any buffer, is read as what was written
 pub written-reads : (base : ℕ) (r : Reading) (buffer : List ℕ) (n : ℕ) → writtenOf (writeFault base r (length buffer)) frameLength ≡ Length n
@@ -41,12 +41,16 @@ pub written-reads : (base : ℕ) (r : Reading) (buffer : List ℕ) (n : ℕ) →
 written-reads base r buffer n e =
     let w = length-is (writeFault base r (length buffer)) frameLength n e in
     let c = room-enough base r (length buffer) (w .0) in
-    rw (w .1, front base r buffer (w .0)) (frame-read base r (checked-is base r (c .1)))
+    rw (w .1, front base r buffer (w .0)) (frame-read base r (carried-is base r (c .1)))
 
 module _ (base : ℕ) (s : List ℕ) (r : Reading) (e : readFrame base s ≡ Time r) where
-  -- a reading that is read passes the checks that every writer and stamping share
+  -- a reading that is read is carried by the writer
+  pub accepted-carried : carriedOf base r ≡ Good
+  accepted-carried = is-carried base r (reading-is-carried base s r (accepted base s r e))
+
+  -- and so passes the checks that every writer and stamping share
   pub accepted-checked : checkedOf base r ≡ Good
-  accepted-checked = is-checked base r (reading-is-checked base s r (accepted base s r e))
+  accepted-checked = carried-parts base r accepted-carried .0
 
   -- the frame is that of its reading
   pub accepted-frame : frameOf r ≡ s
@@ -58,7 +62,7 @@ module _ (base : ℕ) (s : List ℕ) (r : Reading) (e : readFrame base s ≡ Tim
       × (filled (writeFault base r (length buffer)) (frameOf r) buffer ≡ s ++ drop (length s) buffer)
   read-writes buffer h =
       let long : length s ≡ frameLength = accepted base s r e .long in
-      let w = written-frame base r buffer (writable base r (length buffer) (omega arith) accepted-checked) in
+      let w = written-frame base r buffer (writable base r (length buffer) (omega arith) accepted-carried) in
       (w .0 ∙ ap Length (sym long), w .1 ∙ rw (accepted-frame, long))
 
   -- stamping refuses it by 12 alone
@@ -70,13 +74,13 @@ module _ (base : ℕ) (s : List ℕ) (r : Reading) (e : readFrame base s ≡ Tim
       go true y = inl (is-stamp base r (stampNumber (utcOf r) (r .second)) (record { checked = accepted-checked; year = y; value = refl }))
       go false y = inr (refused-by-12 base r accepted-checked y)
 
--- EXACTLY: the reader accepts the frames of the readings that pass the checks, and no others
+-- EXACTLY: the reader accepts the frames of the readings that the writer carries, and no others
 pub exactly : (base : ℕ) (s : List ℕ) (r : Reading)
-    → (readFrame base s ≡ Time r → (checkedOf base r ≡ Good) × (s ≡ frameOf r))
-    × ((checkedOf base r ≡ Good) × (s ≡ frameOf r) → readFrame base s ≡ Time r)
+    → (readFrame base s ≡ Time r → (carriedOf base r ≡ Good) × (s ≡ frameOf r))
+    × ((carriedOf base r ≡ Good) × (s ≡ frameOf r) → readFrame base s ≡ Time r)
 exactly base s r = (
-  λ e. (accepted-checked base s r e, sym (accepted-frame base s r e)),
-  λ p. rw (p .1) (frame-read base r (checked-is base r (p .0))),
+  λ e. (accepted-carried base s r e, sym (accepted-frame base s r e)),
+  λ p. rw (p .1) (frame-read base r (carried-is base r (p .0))),
 )
 
 -- no two frames say one reading

@@ -1,5 +1,5 @@
--- The values that a reading which passes the checks lays in a frame's groups: they fit, they say that reading, and no fault
--- is found in them.
+-- The values that a reading which a frame carries lays in the frame's groups: they fit, they say that reading, and no fault is
+-- found in them.
 use mathlib.Core.Path.{_≡_, refl, ap, subst, _∙_}
 use mathlib.Core.Bool.{false}
 use Prim.Native.Nat.{ℕ, _+_, _-_, _*_, _/_, _%_, _^_, _<_, _≤_}
@@ -37,12 +37,16 @@ use Rattle.irig.specs.Meaning.{
 use Rattle.irig.specs.Writing.{groupsOf, valuesOf}
 use Rattle.irig.proofs.Each.{Each, each-at}
 use Rattle.irig.proofs.GroupLaws.{Values}
-use Rattle.irig.proofs.OffsetLaws.{amount-back, no-minus-zero, offset-back, halves-few}
+use Rattle.irig.proofs.OffsetLaws.{amount-back, no-minus-zero, offset-back, halves-few, even-whole}
+use Rattle.irig.proofs.CarriedLaws.{Carried}
 use Rattle.irig.proofs.FieldLaws.{Digits, Sound}
 
--- ---- the values of a reading that passes the checks
+-- ---- the values of a reading that a frame carries
 
-module _ (base : ℕ) (r : Reading) (p : ℕ) (c : Checked base r) where
+module _ (base : ℕ) (r : Reading) (p : ℕ) (carried : Carried base r) where
+  c : Checked base r
+  c = carried .checked
+
   date-real : Real (dateOf r)
   date-real = real (dateOf r) (c .date)
 
@@ -115,7 +119,7 @@ module _ (base : ℕ) (r : Reading) (p : ℕ) (c : Checked base r) where
 
   added-back : addedIn (valuesOf r p) ≡ opposite (r .offset .0)
   unfolding addedIn
-  added-back = rw (sign-is, halves-is) (amount-back (opposite (r .offset .0)))
+  added-back = rw (sign-is, halves-is) (amount-back (opposite (r .offset .0)) (even-whole (r .offset .0) (carried .even)))
 
   local-back : localOf (addedIn (valuesOf r p)) ≡ r .offset .0
   local-back = ap localOf added-back ∙ offset-back (r .offset .0) (c .offset)
@@ -181,7 +185,7 @@ module _ (base : ℕ) (r : Reading) (p : ℕ) (c : Checked base r) where
     hour = rw hour-back (c .hour);
     day = rw (year-again, day-back) (year-has (dateOf r) date-real);
     second-of-day = rw (hour-back, minute-back, second-back) second-of-day-back;
-    sign = rw (sign-is, halves-is) (no-minus-zero (opposite (r .offset .0)));
+    sign = rw (sign-is, halves-is) (no-minus-zero (opposite (r .offset .0)) (even-whole (r .offset .0) (carried .even)));
     offset = rw local-back (c .offset);
     leap = rw (reading-back, second-back) (c .leap);
     insertion = insertion-back;

@@ -1,4 +1,4 @@
--- Cases 6, 7 and 10 of document 01, computed by the written definitions.
+-- Cases 6, 7 and 10 of document 01 with the offsets that L9 doubles, computed by the written definitions.
 use mathlib.Core.Bool.{true, false, cond}
 use mathlib.Core.List.{[], _∷_, map}
 use mathlib.Core.Path.{_≡_, refl}
@@ -36,6 +36,7 @@ use Rattle.irig_table.specs.Paper.{markDue}
 use Rattle.irig_table.proofs.WorkedFrame.{ones}
 use Rattle.irig.specs.declared.Answer.{Answer}
 use Rattle.irig.specs.declared.Answer.the-variants.{Time, No}
+use Rattle.irig.specs.Offset.{oddQuarter}
 use Rattle.irig.specs.Meaning.{
   secondIn,
   minuteIn,
@@ -52,7 +53,8 @@ use Rattle.irig.specs.Meaning.{
   offsetBad,
 }
 use Rattle.irig.specs.Faults.{frameLength, isOdd, fieldsFault, valuesFault, faultIn, readFrame}
-use Rattle.irig.specs.Writing.{groupsOf, valuesOf, parityOf, frameOf, writeFault}
+use Rattle.irig.specs.Writing.{groupsOf, valuesOf, parityOf, frameOf, carriedOf, writeFault}
+use Rattle.irig.proofs.CarriedLaws.{parts-carried}
 
 -- 2024-02-29 12:34:56, no flags, quality 0, at an offset
 abbrev pub atOffset : ℤ → Reading
@@ -70,9 +72,9 @@ atOffset z = record {
   quality = 0;
 }
 
--- case 6: at offset +2, the ones stand where the paper says
+-- case 6: at offset +4, the ones stand where the paper says
 abbrev pub case6 : Reading
-case6 = atOffset (pos 2)
+case6 = atOffset (pos 4)
 
 pub case-6 : frameOf case6 ≡ upTo (λ i. cond (markDue i) 2 (cond (among i ones) 1 0)) frameLength
 unfolding frameOf parityOf valuesOf groupsOf dayOfYear daysBefore daysIn leapYear framePulses ones row pulseFor pulseOf digitOf groupOf weightOf upTo onesFrom
@@ -88,29 +90,37 @@ abbrev pub writtenCode : Written → ℕ
 writtenCode (Length n) = 0
 writtenCode (Unwritten x) = x .code
 
--- case 6; case 7: the same with pulse 84 cleared; case 10: offsets of +28, +29, -24 and -25
+-- case 6; case 7: the same with pulse 84 cleared; case 10: 14 and 14 1/2 hours ahead of UTC, 12 and 12 1/2 behind it
 pub cases-read :
     map (λ s. readCode (readFrame base s))
     (
     frameOf case6
     ∷ set (frameOf case6) 84 0
-    ∷ frameOf (atOffset (pos 28)) ∷ frameOf (atOffset (pos 29))
-    ∷ frameOf (atOffset (negsuc 23)) ∷ frameOf (atOffset (negsuc 24))
+    ∷ frameOf (atOffset (pos 56)) ∷ frameOf (atOffset (pos 58))
+    ∷ frameOf (atOffset (negsuc 47)) ∷ frameOf (atOffset (negsuc 49))
     ∷ []
     )
     ≡ 0 ∷ 7 ∷ 0 ∷ 8 ∷ 0 ∷ 8 ∷ []
 unfolding number readFrame faultIn valuesFault fieldsFault isOdd readingOf yearIn monthDayIn secondIn minuteIn hourIn dayIn digitsIn halvesIn addedIn dayBad secondOfDayWrong offsetBad frameOf parityOf valuesOf groupsOf goodPulses pulseAllowed sumsOf sumOf shareOf upTo row pulseFor pulseOf digitOf groupOf weightOf framePulses onesFrom dayOfYear daysBefore daysIn leapYear inYear yearLength monthDay monthUpTo yearOf west east offsetGood localOf sixtyBad
 cases-read = refl
 
+-- "case 10's become +56 and -48 accepted, +57 and -49 refused"; "an odd quarter .. is 11": +1, -1, +23, +55 and -47
 pub cases-written :
-    map (λ r. writtenCode (writtenOf (writeFault base r frameLength) frameLength))
-    (case6 ∷ atOffset (pos 28) ∷ atOffset (pos 29) ∷ atOffset (negsuc 23) ∷ atOffset (negsuc 24) ∷ [])
-    ≡ 0 ∷ 0 ∷ 8 ∷ 0 ∷ 8 ∷ []
-unfolding number writeFault checkedOf timeBad dateBad inHundred isDate isMonth isDay lastDay daysIn leapYear offsetGood west east sixtyBad
+    map (λ z. writtenCode (writtenOf (writeFault base (atOffset z) frameLength) frameLength))
+    (
+    pos 4 ∷ pos 56 ∷ pos 57 ∷ negsuc 47 ∷ negsuc 48
+    ∷ pos 1 ∷ negsuc 0 ∷ pos 23 ∷ pos 55 ∷ negsuc 46
+    ∷ []
+    )
+    ≡ 0 ∷ 0 ∷ 8 ∷ 0 ∷ 8 ∷ 11 ∷ 11 ∷ 11 ∷ 11 ∷ 11 ∷ []
+unfolding number writeFault carriedOf oddQuarter checkedOf timeBad dateBad inHundred isDate isMonth isDay lastDay daysIn leapYear offsetGood west east sixtyBad
 cases-written = refl
 
--- ---- a reading at any offset that one may have is written and read
+-- ---- a reading at any offset that one may have passes the checks, and at no odd quarter it is written and read
 
 pub at-offset-checked : (z : ℤ) → offsetGood z ≡ true → checkedOf base (atOffset z) ≡ Good
 unfolding checkedOf timeBad dateBad inHundred isDate isMonth isDay lastDay daysIn leapYear sixtyBad
 at-offset-checked z e = rw e
+
+pub at-offset-carried : (z : ℤ) → offsetGood z ≡ true → oddQuarter z ≡ false → carriedOf base (atOffset z) ≡ Good
+at-offset-carried z e f = parts-carried base (atOffset z) (at-offset-checked z e) f

@@ -12,26 +12,25 @@ use Rattle.reading.specs.declared.Verdict.the-variants.{Good, Bad}
 use Rattle.reading.specs.declared.Written.the-variants.{Length, No}
 use Rattle.reading.specs.Faults.{number}
 use Rattle.reading.specs.Writing.{writtenOf, filled}
-use Rattle.reading.specs.Checks.{checkedOf}
 use Rattle.reading.proofs.CheckLaws.{first-good}
 use Rattle.pulses.proofs.RowLaws.{length-row}
 use Rattle.irig_table.specs.Table.{framePulses}
 use Rattle.irig_table.proofs.TableLaws.{frame-length}
 use Rattle.irig.specs.Faults.{frameLength}
-use Rattle.irig.specs.Writing.{valuesOf, parityOf, frameOf, writeFault}
+use Rattle.irig.specs.Writing.{valuesOf, parityOf, frameOf, carriedOf, writeFault}
 
 pub length-frame : (r : Reading) → length (frameOf r) ≡ frameLength
 unfolding frameOf
 length-frame r = length-row framePulses (valuesOf r (parityOf r)) ∙ frame-length
 
--- what is written has room, and passes the checks that every writer shares
-pub room-enough : (base : ℕ) (r : Reading) (room : ℕ) → writeFault base r room ≡ Good → (frameLength ≤ room) × (checkedOf base r ≡ Good)
+-- what is written has room, and a frame carries it
+pub room-enough : (base : ℕ) (r : Reading) (room : ℕ) → writeFault base r room ≡ Good → (frameLength ≤ room) × (carriedOf base r ≡ Good)
 unfolding writeFault
 room-enough base r room e =
     let p = first-good (ltb room frameLength) _ _ e in
     (ltb-false room frameLength (p .0), p .1)
 
-pub writable : (base : ℕ) (r : Reading) (room : ℕ) → frameLength ≤ room → checkedOf base r ≡ Good → writeFault base r room ≡ Good
+pub writable : (base : ℕ) (r : Reading) (room : ℕ) → frameLength ≤ room → carriedOf base r ≡ Good → writeFault base r room ≡ Good
 unfolding writeFault
 writable base r room h e = rw (le-ltb room frameLength h) e
 

@@ -1,8 +1,8 @@
 -- What can be wrong with an IEEE 1344 frame, and with what is to be written as one, with code and place.
--- Conditions and codes are those of 01's table, as amended by L5, a place is that of "the first byte of the lowest offending field".
+-- Conditions and codes are those of 01's table, as amended by L5 and L9, a place is that of "the first byte of the lowest offending field".
 -- (Of an input of another length, code 2 may hold too: code 1 goes before it.)
 use mathlib.Core.Bool.{true, not, _||_}
-use mathlib.Core.List.{List, [], _∷_}
+use mathlib.Core.List.{List, [], _∷_, _++_}
 use mathlib.Core.Path.{_≡_}
 use Prim.Native.Nat.{ℕ}
 use lib.Dec.{eqb, ltb}
@@ -17,6 +17,7 @@ use Rattle.pulses.specs.Row.{goodPulses, sumsOf, overNine}
 use Rattle.irig_table.specs.Table.{framePulses, seconds, minutes, hours, days, tensOfDays, years, tensOfYears, deletion}
 use Rattle.irig.specs.declared.Answer.{Answer}
 use Rattle.irig.specs.declared.Answer.the-variants.{Time, No}
+use Rattle.irig.specs.Offset.{oddQuarter}
 use Rattle.irig.specs.Meaning.{isSet, secondIn, minuteIn, hourIn, readingOf, dayBad, secondOfDayWrong, offsetBad}
 use Rattle.irig.specs.Faults.{isOdd}
 
@@ -47,14 +48,14 @@ readObjections base s = saidObjections base s (sumsOf framePulses s)
 
 -- a reading, and room for so many pulses
 unfoldable pub writeObjections : ℕ → Reading → ℕ → List Objection
-writeObjections base r room = objection (ltb room 100) 1 0 ∷ readingObjections base r
+writeObjections base r room = objection (ltb room 100) 1 0 ∷ readingObjections base r ++ (objection (oddQuarter (r .offset .0)) 11 0 ∷ [])
 
 -- the codes that reader and writer can answer with
 abbrev pub readCodes : List ℕ
 readCodes = 1 ∷ 2 ∷ 3 ∷ 4 ∷ 15 ∷ 16 ∷ 7 ∷ 8 ∷ 9 ∷ 10 ∷ []
 
 abbrev pub writeCodes : List ℕ
-writeCodes = 1 ∷ 15 ∷ 16 ∷ 17 ∷ 8 ∷ 9 ∷ []
+writeCodes = 1 ∷ 15 ∷ 16 ∷ 17 ∷ 8 ∷ 9 ∷ 11 ∷ []
 
 -- what is promised of an answer: where a time is told nothing is objected, and a refusal is the one to give
 abbrev pub AnswerOwed : List Objection → List ℕ → Answer → Type 0

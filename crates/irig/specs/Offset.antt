@@ -1,10 +1,11 @@
 -- The offset as an IEEE 1344 frame has it: a sign and half hours, which are added to local time to give UTC.
-use mathlib.Core.Bool.{Bool, true, false, cond}
-use Prim.Native.Nat.{ℕ, _*_, _/_}
+use mathlib.Core.Bool.{Bool, true, false, cond, not}
+use Prim.Native.Nat.{ℕ, _+_, _*_, _/_, _%_}
+use lib.Dec.{eqb}
 use lib.IntN.{ℤ, pos, negsuc, natAbs}
-use Rattle.reading.specs.Offset.{unit, opposite}
+use Rattle.reading.specs.Offset.{unit, west, east, opposite}
 
--- how many units of an offset half an hour has
+-- how many units of an offset half an hour has: two quarters
 abbrev pub perHalf : ℕ
 perHalf = 30 / unit
 
@@ -20,3 +21,7 @@ isMinus (negsuc n) = true
 -- the half hours of an amount
 abbrev pub halvesOf : ℤ → ℕ
 halvesOf a = natAbs a / perHalf
+
+-- L9: "an odd quarter", to either side of UTC: no half hours make it
+unfoldable pub oddQuarter : ℤ → Bool
+oddQuarter offset = not (eqb ((west offset + east offset) % perHalf) 0)

@@ -5,14 +5,16 @@ use lib.Dec.{ltb}
 use Rattle.calendar.specs.Calendar.{dayOfYear}
 use Rattle.reading.specs.declared.Reading.{Reading}
 use Rattle.reading.specs.declared.Verdict.{Verdict}
-use Rattle.reading.specs.declared.Fault.the-variants.{Length}
+use Rattle.reading.specs.declared.Verdict.the-variants.{Good}
+use Rattle.reading.specs.declared.Fault.the-variants.{Length, NotCarried}
 use Rattle.reading.specs.Faults.{first}
+use Rattle.reading.specs.Writing.{andThen}
 use Rattle.reading.specs.Offset.{opposite}
 use Rattle.reading.specs.Universal.{dateOf}
 use Rattle.reading.specs.Checks.{checkedOf}
 use Rattle.pulses.specs.Row.{row, onesFrom, bit}
 use Rattle.irig_table.specs.Table.{framePulses}
-use Rattle.irig.specs.Offset.{isMinus, halvesOf}
+use Rattle.irig.specs.Offset.{isMinus, halvesOf, oddQuarter}
 use Rattle.irig.specs.Meaning.{secondOfDayAt}
 use Rattle.irig.specs.Faults.{frameLength}
 
@@ -48,6 +50,10 @@ parityOf r = onesFrom 1 beforeParity (row framePulses (valuesOf r 0)) % 2
 unfoldable pub frameOf : Reading → List ℕ
 frameOf r = row framePulses (valuesOf r (parityOf r))
 
+-- the checks that every writer makes of a reading; then, by L9, "an odd quarter at the IEEE 1344 writer .. is 11"
+unfoldable pub carriedOf : ℕ → Reading → Verdict
+carriedOf base r = andThen (checkedOf base r) (first (oddQuarter (r .offset .0)) NotCarried Good)
+
 -- the first fault of a writer that is given a reading and room for so many pulses
 unfoldable pub writeFault : ℕ → Reading → ℕ → Verdict
-writeFault base r room = first (ltb room frameLength) Length (checkedOf base r)
+writeFault base r room = first (ltb room frameLength) Length (carriedOf base r)

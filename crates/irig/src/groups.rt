@@ -5,6 +5,7 @@ use super::fields::second_of_day;
 use super::fields::wide;
 use super::offset::halves_of;
 use super::offset::is_minus;
+use super::offset::odd_quarter;
 use calendar::Date;
 use calendar::days::day_of_year;
 use pulses::bit;
@@ -84,7 +85,14 @@ pub(crate) fn write_fault(r: Reading, room: usize) -> Verdict
     if room < Ieee1344::LENGTH {
         return Verdict::Bad(Fault::Length);
     }
-    checked(r)
+    if let Verdict::Bad(fault) = checked(r) {
+        return Verdict::Bad(fault);
+    }
+    let offset = r.offset;
+    if odd_quarter(offset) {
+        return Verdict::Bad(Fault::NotCarried);
+    }
+    Verdict::Good
 }
 
 // The frame at the start of `out`: laid with parity 0, whose place then gets the parity of the others.

@@ -1,5 +1,5 @@
--- Every frame of a reading that passes the checks is told after its last pulse, whatever pulses came before it, and also where
--- it shares its opening mark with the frame before it; 01's case 11.
+-- Every frame of a reading that a frame carries is told after its last pulse, whatever pulses came before it, and also where it
+-- shares its opening mark with the frame before it; 01's case 11.
 use mathlib.Core.Bool.{true}
 use mathlib.Core.List.{List, [], _∷_, _++_, append-assoc}
 use mathlib.Core.Path.{_≡_, refl, sym, ap, _∙_}
@@ -13,7 +13,6 @@ use Rattle.reading.specs.declared.Refusal.{Refusal}
 use Rattle.reading.specs.declared.Verdict.the-variants.{Good}
 use Rattle.reading.specs.declared.Written.the-variants.{Length}
 use Rattle.reading.specs.Writing.{writtenOf, filled}
-use Rattle.reading.specs.Checks.{checkedOf}
 use Rattle.pulses.specs.Row.{groupOf, pulseOf, pulseFor, row}
 use Rattle.pulses.specs.Outline.{outlineOf}
 use Rattle.pulses.proofs.OutlineLaws.{row-outline, outline-length}
@@ -22,7 +21,7 @@ use Rattle.irig_table.specs.Table.{framePulses}
 use Rattle.irig_table.proofs.TableLaws.{frame-length}
 use Rattle.irig.specs.declared.Answer.the-variants.{Time as Told, No as Not}
 use Rattle.irig.specs.Faults.{frameLength, readFrame}
-use Rattle.irig.specs.Writing.{valuesOf, parityOf, frameOf, writeFault}
+use Rattle.irig.specs.Writing.{valuesOf, parityOf, frameOf, carriedOf, writeFault}
 use Rattle.irig.proofs.WriteLaws.{length-frame}
 use Rattle.irig.proofs.RoundTrip.{exactly, written-reads}
 use Rattle.streams.proofs.Window.{last-after}
@@ -63,7 +62,7 @@ pub refused-told : (base : ℕ) (s : List ℕ) (refusal : Refusal) → outlineOf
     → (before : List ℕ) → owed base (before ++ s) ≡ No refusal
 refused-told base s refusal o e before = outlined-told base s o before ∙ ap saidOf e
 
-module _ (base : ℕ) (r : Reading) (good : checkedOf base r ≡ Good) where
+module _ (base : ℕ) (r : Reading) (good : carriedOf base r ≡ Good) where
   -- whatever came before it
   pub frame-told : (before : List ℕ) → owed base (before ++ frameOf r) ≡ Time r
   frame-told before = outlined-told base (frameOf r) (frame-outline r) before ∙ ap saidOf (exactly base (frameOf r) r .1 (good, refl))

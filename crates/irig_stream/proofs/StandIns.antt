@@ -10,9 +10,9 @@ use Rattle.reading.specs.declared.Reading.{Reading}
 use Rattle.reading.specs.declared.Verdict.the-variants.{Good}
 use Rattle.reading.specs.Years.{base}
 use Rattle.reading.specs.Offset.{west, east, offsetGood}
-use Rattle.reading.specs.Checks.{checkedOf}
-use Rattle.irig.specs.Writing.{frameOf}
-use Rattle.irig.proofs.Worked.{atOffset, at-offset-checked}
+use Rattle.irig.specs.Offset.{oddQuarter}
+use Rattle.irig.specs.Writing.{frameOf, carriedOf}
+use Rattle.irig.proofs.Worked.{atOffset, at-offset-carried}
 use Rattle.irig.proofs.WriteLaws.{length-frame}
 use Rattle.streams.specs.Stream.{answersOf, newestOf}
 use Rattle.streams.specs.StandIns.{SilentEver, RestartsAtTwos, RefusesAll, RepeatsFirst, SilentAfterFirst, SilentBefore}
@@ -35,18 +35,18 @@ abbrev first : Reading
 first = atOffset (pos 0)
 
 abbrev second : Reading
-second = atOffset (pos 1)
+second = atOffset (pos 2)
 
-first-good : checkedOf base first ≡ Good
-unfolding offsetGood west east
-first-good = at-offset-checked (pos 0) refl
+first-good : carriedOf base first ≡ Good
+unfolding offsetGood west east oddQuarter
+first-good = at-offset-carried (pos 0) refl refl
 
-second-good : checkedOf base second ≡ Good
-unfolding offsetGood west east
-second-good = at-offset-checked (pos 1) refl
+second-good : carriedOf base second ≡ Good
+unfolding offsetGood west east oddQuarter
+second-good = at-offset-carried (pos 2) refl refl
 
 different : second ≡ first → ⊥
-different e = let z : _≡_ {A = ℕ} 1 0 = ap (λ (r : Reading). natAbs (r .offset .0)) e in omega arith
+different e = let z : _≡_ {A = ℕ} 2 0 = ap (λ (r : Reading). natAbs (r .offset .0)) e in omega arith
 
 -- a mark nine pulses before a frame: it can be the frame's start until the mark at the frame's place 9
 abbrev stray : List ℕ

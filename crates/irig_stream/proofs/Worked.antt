@@ -18,10 +18,11 @@ use Rattle.irig_table.specs.Paper.{markDue}
 use Rattle.irig_table.proofs.WorkedFrame.{ones}
 use Rattle.irig.specs.declared.Answer.{Answer}
 use Rattle.irig.specs.declared.Answer.the-variants.{Time as Told, No as Not}
+use Rattle.irig.specs.Offset.{oddQuarter}
 use Rattle.irig.specs.Meaning.{secondIn, minuteIn, hourIn, dayIn, digitsIn, yearIn, dayBad, secondOfDayWrong}
 use Rattle.irig.specs.Faults.{frameLength, isOdd, fieldsFault, valuesFault, faultIn, readFrame}
 use Rattle.irig.proofs.RoundTrip.{exactly}
-use Rattle.irig.proofs.Worked.{case6, case-6, at-offset-checked}
+use Rattle.irig.proofs.Worked.{case6, case-6, at-offset-carried}
 use Rattle.streams.specs.Stream.{lastOf, owedTo}
 use Rattle.irig_stream.specs.declared.Said.{Said}
 use Rattle.irig_stream.specs.declared.Said.the-variants.{Time, No, Nothing}
@@ -41,8 +42,8 @@ unfolding owedTo owed sayOf lastOf outlineOf inOutline groupOf framePulses upTo 
 outlines = refl
 
 read-6 : readFrame base pulses6 ≡ Told case6
-unfolding offsetGood west east
-read-6 = exactly base pulses6 case6 .1 (at-offset-checked (pos 2) refl, sym case-6)
+unfolding offsetGood west east oddQuarter
+read-6 = exactly base pulses6 case6 .1 (at-offset-carried (pos 4) refl refl, sym case-6)
 
 pub case-11 : answers base (pulses6 ++ drop 1 pulses6) ≡ replicate 99 Nothing ++ (Time case6 ∷ replicate 98 Nothing ++ (Time case6 ∷ []))
 case-11 = fresh-says-owed base (pulses6 ++ drop 1 pulses6) ∙ outlines ∙ ap twice read-6

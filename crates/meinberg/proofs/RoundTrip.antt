@@ -17,6 +17,7 @@ use Rattle.reading.specs.Universal.{utcOf}
 use Rattle.reading.specs.Checks.{checkedOf}
 use Rattle.reading.specs.Stamps.{hasStamp, stampNumber, stampOf}
 use Rattle.reading.specs.Writing.{filled}
+use Rattle.reading.proofs.OffsetLaws.{WholeHours}
 use Rattle.reading.proofs.CheckLaws.{Checked, checked-is, is-checked, clash}
 use Rattle.reading.proofs.StampLaws.{is-stamp, refused-by-12}
 use Rattle.reading.proofs.YearLaws.{year-in}
@@ -26,7 +27,7 @@ use Rattle.strings.proofs.CheckLaws.{Sound}
 use Rattle.meinberg.specs.Layout.{textLength, places, yearPlace, failurePlace, zonePlace, announcementPlace}
 use Rattle.meinberg.specs.Meaning.{meaning, readMeinberg}
 use Rattle.meinberg.specs.Writing.{bytesOf, writeFault}
-use Rattle.meinberg.proofs.ZoneLaws.{letter-carried, letter-good}
+use Rattle.meinberg.proofs.ZoneLaws.{letter-carried, letter-good, letter-whole-hours}
 use Rattle.meinberg.proofs.FieldLaws.{quality-two, one-announced}
 use Rattle.meinberg.proofs.ReadLaws.{Accepted, accepted, is-accepted, Told, told-is, is-told}
 use Rattle.meinberg.proofs.WriteLaws.{Carried, Writable, writable, is-writable, bytes-length}
@@ -130,6 +131,11 @@ module _ (base : ℕ) (s : List ℕ) (r : Reading) (coasting : Bool) (read : rea
   -- an accepted reading passes the checks of every reading
   pub accepted-checked : checkedOf base r ≡ Good
   accepted-checked = writable base r textLength (read-writable textLength (omega arith)) .checked
+
+  -- at whole hours from UTC
+  pub accepted-whole-hours : WholeHours (r .offset .0)
+  unfolding meaning
+  accepted-whole-hours = subst (λ (m : Reading). WholeHours (m .offset .0)) (told .time) (letter-whole-hours (getD s zonePlace 0))
 
   -- so that stamping refuses it by 12 alone
   pub accepted-stamped : (n : Refusal) → stampOf base r ≡ Refused n → n ≡ number OutsideYears

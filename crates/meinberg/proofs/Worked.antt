@@ -101,7 +101,7 @@ refused code place = No (record { code = code; place = place })
 -- case 2; case 5: "29.02.24 is weekday 4. 29.02.23: code 5", which by L5 is 16 at the day
 pub worked :
     map (readMeinberg base) (leapSecond ∷ leapDay ∷ noSuchDay ∷ [])
-    ≡ Time atLeapSecond false ∷ Time (onLeapDay (pos 2) false false false 0) false ∷ refused 16 3 ∷ []
+    ≡ Time atLeapSecond false ∷ Time (onLeapDay (pos 4) false false false 0) false ∷ refused 16 3 ∷ []
 unfolding readMeinberg faultIn meaning coastingIn qualityOf offsetOf summerOf
     layout packed exactly from either oneOf within beside allowed goodPlaces digit pair
     faultOf dayBad monthBad weekdayBad weekdayWrong number yearOf
@@ -109,15 +109,15 @@ unfolding readMeinberg faultIn meaning coastingIn qualityOf offsetOf summerOf
     closesWithLeap leapMinute sixtyBad west east utcMinutes onDay utcOf
 worked = refl
 
--- "x is `U` (offset 0), space (offset +2 half hours) or `S` (+4, summer)", "u is `#` (quality 15) or space (0)", "v is `*`
+-- "x is `U` (offset 0), space (offset +2 half hours) or `S` (+4, summer)" with offsets that L9 doubles, "u is `#` (quality 15) or space (0)", "v is `*`
 -- (coasting) or space", "y is `!`, `A` or space"; weekday 0, 8 or 9 is code 16, another than the date's is 6, and `%` is no u
 pub worked-letters :
     (map (readMeinberg base) (
     string 52 32 32 85 32 ∷ string 52 32 32 32 32 ∷ string 52 32 32 83 32
     ∷ string 52 35 32 32 32 ∷ string 52 32 42 32 32 ∷ string 52 32 32 32 33 ∷ string 52 32 32 32 65 ∷ [])
-    ≡ Time (onLeapDay (pos 0) false false false 0) false ∷ Time (onLeapDay (pos 2) false false false 0) false ∷ Time (onLeapDay (pos 4) true false false 0) false
-    ∷ Time (onLeapDay (pos 2) false false false 15) false ∷ Time (onLeapDay (pos 2) false false false 0) true
-    ∷ Time (onLeapDay (pos 2) false false true 0) false ∷ Time (onLeapDay (pos 2) false true false 0) false ∷ [])
+    ≡ Time (onLeapDay (pos 0) false false false 0) false ∷ Time (onLeapDay (pos 4) false false false 0) false ∷ Time (onLeapDay (pos 8) true false false 0) false
+    ∷ Time (onLeapDay (pos 4) false false false 15) false ∷ Time (onLeapDay (pos 4) false false false 0) true
+    ∷ Time (onLeapDay (pos 4) false false true 0) false ∷ Time (onLeapDay (pos 4) false true false 0) false ∷ [])
     × (map (readMeinberg base) (string 48 32 32 32 32 ∷ string 56 32 32 32 32 ∷ string 57 32 32 32 32 ∷ string 51 32 32 32 32 ∷ string 52 37 32 32 32 ∷ [])
     ≡ refused 16 14 ∷ refused 16 14 ∷ refused 16 14 ∷ refused 6 14 ∷ refused 2 27 ∷ [])
 unfolding readMeinberg faultIn meaning coastingIn qualityOf offsetOf summerOf

@@ -7,11 +7,10 @@ use lib.ListN.{length}
 use borrow.Author.Tests.{le-ltb, ltb-false, not-false}
 use Rattle.laws.proofs.Bools.{neither}
 use Rattle.reading.specs.declared.Reading.{Reading}
-use Rattle.reading.specs.declared.Verdict.{Verdict}
-use Rattle.reading.specs.declared.Verdict.the-variants.{Good, Bad}
+use Rattle.reading.specs.declared.Verdict.the-variants.{Good}
 use Rattle.reading.specs.Checks.{checkedOf}
-use Rattle.reading.specs.Writing.{andThen}
-use Rattle.reading.proofs.CheckLaws.{first-good, clash}
+use Rattle.reading.proofs.CheckLaws.{first-good}
+use Rattle.reading.proofs.WrittenLaws.{then-good}
 use Rattle.meinberg.specs.Layout.{textLength}
 use Rattle.meinberg.specs.Zones.{zoneCarried}
 use Rattle.meinberg.specs.Writing.{bytesOf, notCarried, writeFault}
@@ -40,17 +39,12 @@ pub is-carried : (r : Reading) → Carried r → notCarried r ≡ false
 unfolding notCarried
 is-carried r p = rw (p .zone, p .announced, p .quality)
 
--- the checks and what comes after them are both good
-pub and-then-good : (v w : Verdict) → andThen v w ≡ Good → (v ≡ Good) × (w ≡ Good)
-and-then-good Good w e = (refl, e)
-and-then-good (Bad x) w e = let z : _≡_ {A = ℕ} 0 1 = cc in clash z
-
 module _ (base : ℕ) (r : Reading) (room : ℕ) where
   pub writable : writeFault base r room ≡ Good → Writable base r room
   unfolding writeFault
   writable e =
       let p = first-good (ltb room textLength) _ _ e in
-      let q = and-then-good (checkedOf base r) _ (p .1) in
+      let q = then-good (checkedOf base r) _ (p .1) in
       let n = first-good (notCarried r) _ _ (q .1) in
       record { enough = ltb-false room textLength (p .0); checked = q .0; carried = carried-is r (n .0) }
 

@@ -9,6 +9,7 @@ use Rattle.laws.proofs.Bools.{both, holds, same-bool}
 use Rattle.laws.specs.Tests.{same}
 use Rattle.laws.proofs.Signed.{same-is}
 use Rattle.reading.specs.Offset.{west, east, offsetGood}
+use Rattle.reading.proofs.OffsetLaws.{WholeHours}
 use Rattle.meinberg.specs.Layout.{space, letterS, letterU}
 use Rattle.meinberg.specs.Zones.{offsetOf, summerOf, isZone, zoneCarried, zoneLetter}
 
@@ -70,6 +71,16 @@ unfolding offsetOf offsetGood west east
 letter-good x = go (eqb x letterU) (eqb x letterS)
   where
     go : (a b : Bool) → offsetGood (cond a (offsetOf letterU) (cond b (offsetOf letterS) (offsetOf space))) ≡ true
+    go true b = refl
+    go false true = refl
+    go false false = refl
+
+-- and whole hours
+pub letter-whole-hours : (x : ℕ) → WholeHours (offsetOf x)
+unfolding offsetOf west east
+letter-whole-hours x = go (eqb x letterU) (eqb x letterS)
+  where
+    go : (a b : Bool) → WholeHours (cond a (offsetOf letterU) (cond b (offsetOf letterS) (offsetOf space)))
     go true b = refl
     go false true = refl
     go false false = refl

@@ -6,9 +6,9 @@ use lib.IntN.{ℤ, pos}
 use Rattle.laws.specs.Tests.{same}
 use Rattle.meinberg.specs.Layout.{space, letterS, letterU}
 
--- "x is `U` (offset 0), space (offset +2 half hours) or `S` (+4, summer)": the offset
+-- "x is `U` (offset 0), space (offset +2 half hours) or `S` (+4, summer)": the offset, which by L9 "doubles", to quarter hours
 unfoldable pub offsetOf : ℕ → ℤ
-offsetOf x = cond (eqb x letterU) (pos 0) (cond (eqb x letterS) (pos 4) (pos 2))
+offsetOf x = cond (eqb x letterU) (pos 0) (cond (eqb x letterS) (pos 8) (pos 4))
 
 -- and the summer flag
 unfoldable pub summerOf : ℕ → Bool

@@ -11,9 +11,9 @@ pub(crate) fn offset_of(letter: u8) -> LocalMinusUtc
         return LocalMinusUtc(0);
     }
     if letter == b'S' {
-        return LocalMinusUtc(4);
+        return LocalMinusUtc(8);
     }
-    LocalMinusUtc(2)
+    LocalMinusUtc(4)
 }
 
 pub(crate) fn summer_of(letter: u8) -> bool

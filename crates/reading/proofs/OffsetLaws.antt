@@ -1,14 +1,14 @@
 -- The two senses of offset are each other's negative, and which offsets are good.
 use mathlib.Core.Bool.{Bool, true, false, cond}
 use mathlib.Core.Path.{_≡_, refl, sym, ap, _∙_}
-use Prim.Native.Nat.{ℕ, zero, suc, _≤_, _<_}
+use Prim.Native.Nat.{ℕ, zero, suc, _+_, _/_, _%_, _≤_, _<_}
 use native.Mathlib.Omega.{arith}
 use lib.Dec.{leb, ltb}
 use lib.IntN.{ℤ, pos, negsuc, negℤ-negℤ}
 use lib.Signed.{mag}
 use borrow.Author.Tests.{leb-true, ltb-false}
 use Rattle.laws.proofs.Bools.{both}
-use Rattle.reading.specs.Offset.{westmost, eastmost, west, east, offsetGood, opposite, localOf}
+use Rattle.reading.specs.Offset.{unit, westmost, eastmost, west, east, offsetGood, opposite, localOf}
 
 -- what is added to local time is the opposite of local minus UTC, and back
 pub opposite-twice : (z : ℤ) → opposite (opposite z) ≡ z
@@ -41,3 +41,7 @@ unfolding offsetGood
 offset-range z e =
     let p = both (leb (west z) westmost) (leb (east z) eastmost) e in
     (leb-true (west z) westmost (p .0), leb-true (east z) eastmost (p .1))
+
+-- whole hours to either side of UTC
+abbrev pub WholeHours : ℤ → Type 0
+WholeHours z = (west z + east z) % (60 / unit) ≡ 0

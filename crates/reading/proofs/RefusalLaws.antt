@@ -193,3 +193,50 @@ nothing-before (o ∷ l) =
 pub length-owed : (l : List Objection) (codes : List ℕ) → among 1 codes ≡ true → Owed (asObjection true Length ∷ l) codes (number Length)
 unfolding due raised number
 length-owed l codes e = (rw (nothing-before (asObjection true Length ∷ l)), e)
+
+-- ---- one objection more after the others
+
+pub quiet-ends : (l : List Objection) (o : Objection) → o .holds ≡ false → quiet l ≡ true → quiet (l ++ (o ∷ [])) ≡ true
+unfolding quiet
+quiet-ends [] o e q = rw e
+quiet-ends (p ∷ l) o e q = let b = both (not (p .holds)) (quiet l) q in rw (b .0, quiet-ends l o e (b .1))
+
+raised-ends : (l : List Objection) (o : Objection) (x : Refusal) → o .holds ≡ false → raised (l ++ (o ∷ [])) x ≡ raised l x
+unfolding raised
+raised-ends [] o x e = rw e
+raised-ends (p ∷ l) o x e = rw (raised-ends l o x e)
+
+unpreceded-ends : (l : List Objection) (o : Objection) (x : Refusal) → o .holds ≡ false → unpreceded (l ++ (o ∷ [])) x ≡ unpreceded l x
+unfolding unpreceded
+unpreceded-ends [] o x e = rw e
+unpreceded-ends (p ∷ l) o x e = rw (unpreceded-ends l o x e)
+
+-- one that does not hold changes nothing
+pub owed-ends : (l : List Objection) (o : Objection) (codes : List ℕ) (x : Refusal) → o .holds ≡ false → Owed l codes x → Owed (l ++ (o ∷ [])) codes x
+unfolding due
+owed-ends l o codes x e p = (rw (raised-ends l o x e, unpreceded-ends l o x e) (p .0), p .1)
+
+-- and where none of the others holds, it is the one to give
+module _ (code place : ℕ) where
+  abbrev last : Objection
+  last = objection true code place
+
+  raised-last : (l : List Objection) → raised (l ++ (last ∷ [])) (refusalOf last) ≡ true
+  unfolding raised
+  raised-last [] = rw (eq-eqb code code refl, eq-eqb place place refl)
+  raised-last (o ∷ l) = rw (raised-last l) (true-after (o .holds && (eqb (o .code) code && eqb (o .place) place)))
+    where
+      true-after : (b : Bool) → (b || true) ≡ true
+      true-after true = refl
+      true-after false = refl
+
+  unpreceded-last : (l : List Objection) → quiet l ≡ true → unpreceded (l ++ (last ∷ [])) (refusalOf last) ≡ true
+  unfolding quiet unpreceded
+  unpreceded-last [] q = rw (not-itself true code place)
+  unpreceded-last (o ∷ l) q =
+      let b = both (not (o .holds)) (quiet l) q in
+      rw (not-true (o .holds) (b .0), unpreceded-last l (b .1))
+
+  pub last-owed : (l : List Objection) (codes : List ℕ) → quiet l ≡ true → among code codes ≡ true → Owed (l ++ (last ∷ [])) codes (refusalOf last)
+  unfolding due
+  last-owed l codes q m = (rw (raised-last l, unpreceded-last l q), m)

@@ -4,15 +4,15 @@ use Prim.Native.Nat.{ℕ, zero, suc}
 use lib.Dec.{leb, ltb}
 use lib.IntN.{ℤ, pos, negsuc, negℤ}
 
--- an offset counts half hours: its unit in minutes, and how far it goes west and east of UTC
+-- L9: "The reading's offset becomes quarter hours, -48..+56": its unit in minutes, and how far it goes west and east of UTC
 abbrev pub unit : ℕ
-unit = 30
+unit = 15
 
 abbrev pub westmost : ℕ
-westmost = 24
+westmost = 48
 
 abbrev pub eastmost : ℕ
-eastmost = 28
+eastmost = 56
 
 -- the units by which local time is behind UTC
 unfoldable pub west : ℤ → ℕ
@@ -24,7 +24,7 @@ unfoldable pub east : ℤ → ℕ
 east (pos n) = n
 east (negsuc n) = 0
 
--- "offset in half hours, local minus UTC, -24..+28"
+-- "local minus UTC", and no farther than that to either side
 unfoldable pub offsetGood : ℤ → Bool
 offsetGood z = leb (west z) westmost && leb (east z) eastmost
 

@@ -8,10 +8,11 @@ pub mod stamps;
 pub mod universal;
 pub mod years;
 
-// Local time minus UTC, in half hours: what strings and readings say.
+// Local time minus UTC, in quarter hours: what strings and readings say.
 pub struct LocalMinusUtc(pub i8);
 
-// What is added to local time to give UTC, in half hours: what IEEE 1344 says. Wider, so that every offset has its opposite.
+// What is added to local time to give UTC, in quarter hours too: the sense of IEEE 1344. Wider, so that every offset has its
+// opposite.
 pub struct AddedToLocal(pub i16);
 
 // A clock's time. Every value of it is legal; which values are a time is said by `checks::checked`.

@@ -7,11 +7,11 @@ ghost use Rattle.laws.specs.Tests.{same};
 ghost use Rattle.reading.specs.Offset.{west, east, offsetGood, opposite, localOf};
 
 // The minutes of a unit of offset, and how many units an offset goes west and east of UTC.
-pub const UNIT: u16 = 30;
+pub const UNIT: u16 = 15;
 
-pub const WESTMOST: u16 = 24;
+pub const WESTMOST: u16 = 48;
 
-pub const EASTMOST: u16 = 28;
+pub const EASTMOST: u16 = 56;
 
 // Whether two offsets are one.
 pub fn same_offset(a: LocalMinusUtc, b: LocalMinusUtc) -> bool

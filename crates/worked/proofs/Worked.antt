@@ -1,6 +1,6 @@
 -- "Cases 1 to 10 are proved of the written definitions by a single statement over a list of them." The same statement holds of
 -- a second list, which pins codes, letters and pulses that the cases leave open, of a third of month ends, of a fourth of places, of
--- a fifth of telegrams, of a sixth of both clock strings, and of a seventh of coasting marks.
+-- a fifth of telegrams, of a sixth of both clock strings, of a seventh of coasting marks, and of an eighth of quarter hours.
 use mathlib.Core.List.{List, map}
 use mathlib.Core.Path.{_≡_, refl}
 use Rattle.calendar.specs.Calendar.{leapYear, daysIn, daysBefore, yearLength, daysBeforeYear, dayOfYear, dayNumber, weekdayOf, isMonth, lastDay, isDay, isDate, dayBefore, dayAfter, yearAfter, monthUpTo, inYear, monthDay}
@@ -24,6 +24,7 @@ use Rattle.erlangen.specs.Meaning as erlangen
 use Rattle.erlangen.specs.Writing as erlangen-writing
 use Rattle.pulses.specs.Row.{groupOf, weightOf, pulseAllowed, pulseOf, digitOf, pulseFor, row, goodPulses, shareOf, sumOf, sumsOf, upTo, onesFrom, liesWithin, onesOf}
 use Rattle.irig_table.specs.Table.{framePulses}
+use Rattle.irig.specs.Offset.{oddQuarter}
 use Rattle.irig.specs.Meaning as frame
 use Rattle.irig.specs.Faults as frame-faults
 use Rattle.irig.specs.Writing as frame-writing
@@ -52,13 +53,14 @@ use Rattle.worked.specs.Places.{places}
 use Rattle.worked.specs.Telegrams.{telegrams}
 use Rattle.worked.specs.ClockStrings.{clockStrings}
 use Rattle.worked.specs.CoastingMarks.{coastingMarks}
+use Rattle.worked.specs.Quarters.{quarters}
 
 -- each question of the list is answered as the paper answers it
 abbrev pub AsPaper : List Case → Type 0
 AsPaper l = map (λ (c : Case). answerTo (c .asked)) l ≡ map (λ (c : Case). c .answer) l
 
-pub worked : AsPaper cases × AsPaper pinned × AsPaper monthEnds × AsPaper places × AsPaper telegrams × AsPaper clockStrings × AsPaper coastingMarks
-unfolding cases pinned monthEnds places telegrams clockStrings coastingMarks withOnes turned answerTo
+pub worked : AsPaper cases × AsPaper pinned × AsPaper monthEnds × AsPaper places × AsPaper telegrams × AsPaper clockStrings × AsPaper coastingMarks × AsPaper quarters
+unfolding cases pinned monthEnds places telegrams clockStrings coastingMarks quarters withOnes turned answerTo
     stampOf stampAt stampNumber hasStamp checkedOf timeBad dateBad sixtyBad leapMinute closesWithLeap afterLeap withinMinute leapWindow changeWindow
     utcOf onDay utcMinutes inHundred yearOf west east offsetGood localOf number
     leapYear daysIn daysBefore yearLength daysBeforeYear dayOfYear dayNumber weekdayOf
@@ -78,7 +80,7 @@ unfolding cases pinned monthEnds places telegrams clockStrings coastingMarks wit
     framePulses frame.secondIn frame.minuteIn frame.hourIn frame.dayIn frame.digitsIn frame.halvesIn frame.addedIn frame.yearIn
     frame.monthDayIn frame.readingOf frame.dayBad frame.secondOfDayWrong frame.offsetBad
     frame-faults.isOdd frame-faults.fieldsFault frame-faults.valuesFault frame-faults.faultIn frame-faults.readFrame
-    frame-writing.groupsOf frame-writing.valuesOf frame-writing.parityOf frame-writing.frameOf frame-writing.writeFault
+    oddQuarter frame-writing.groupsOf frame-writing.valuesOf frame-writing.parityOf frame-writing.frameOf frame-writing.carriedOf frame-writing.writeFault
     sharedMarks lastMarks minuteMarks minute-zones.offsetIn minute-zones.zoneOf minute-zones.zoneBad
     forms.lengthOf forms.lastOf forms.dueLong
     minute.isLong minute.tableFor minute.says minute.readingOf minute.lengthBad minute.digitFault minute.odd minute.parityFault
@@ -93,4 +95,4 @@ unfolding cases pinned monthEnds places telegrams clockStrings coastingMarks wit
     utcSent namedMinute namedSummer sameDate announcesLeap telegramReading
     sending.timeBad sending.leapDateBad sending.outside sending.faultWith sending.sendFault sending.telegramFault
     bodyLength readBody recordAt nextAt recordsFrom decimal digitsBefore lineAt linesOf bodyText listing
-worked = (refl, refl, refl, refl, refl, refl, refl)
+worked = (refl, refl, refl, refl, refl, refl, refl, refl)

@@ -30,10 +30,10 @@ oneMore s = s ++ (3 ∷ [])
 unfoldable pub clockStrings : List Case
 clockStrings =
     -- "32 is Meinberg, 68 is Uni Erlangen, and the answer names which": the same time, locked and coasting
-    gives (clockString short) (toldMeinberg (case6 (plus 2)) false)
-    ∷ gives (clockString (meinberg6 32 42 32 32)) (toldMeinberg (case6 (plus 2)) true)
-    ∷ gives (clockString (long noFlags)) (toldErlangen (case6 (plus 2)) false)
-    ∷ gives (clockString (long coasting)) (toldErlangen (case6 (plus 2)) true)
+    gives (clockString short) (toldMeinberg (case6 (plus 4)) false)
+    ∷ gives (clockString (meinberg6 32 42 32 32)) (toldMeinberg (case6 (plus 4)) true)
+    ∷ gives (clockString (long noFlags)) (toldErlangen (case6 (plus 4)) false)
+    ∷ gives (clockString (long coasting)) (toldErlangen (case6 (plus 4)) true)
     -- "any other length is code 1": 0, 1, 31, 33, 64, 67 and 69 bytes
     ∷ gives (clockString []) (refused 1 0)
     ∷ gives (clockString (2 ∷ [])) (refused 1 0)
@@ -53,8 +53,8 @@ clockStrings =
     ∷ gives (positionPart (oneMore (long noFlags))) (text [])
     ∷ gives (positionPart []) (text [])
     -- the writer that the answer names gives the same bytes
-    ∷ gives (toMeinberg (case6 (plus 2)) false (sevens 32)) (wrote 32 short)
-    ∷ gives (toErlangen (case6 (plus 2)) true alphabet (sevens 68)) (wrote 68 (long coasting))
+    ∷ gives (toMeinberg (case6 (plus 4)) false (sevens 32)) (wrote 32 short)
+    ∷ gives (toErlangen (case6 (plus 4)) true alphabet (sevens 68)) (wrote 68 (long coasting))
     -- the bridge takes either; another length is 1, and so is the room, before the string is looked at
     ∷ gives (bridged short (sevens 101)) (wrote 100 (frame6 ++ sevens 1))
     ∷ gives (bridged (long noFlags) (sevens 100)) (wrote 100 frame6)

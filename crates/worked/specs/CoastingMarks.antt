@@ -94,4 +94,4 @@ coastingMarks =
     ++ refusedEitherWay wrongWeekday 99 1 0
     ++ refusedEitherWay (take 31 coasting) 100 1 0
     -- the frame is read as a failed clock's
-    ++ (gives (pulses frame15) (told (leapDay 56 (plus 2) false false false 15)) ∷ [])
+    ++ (gives (pulses frame15) (told (leapDay 56 (plus 4) false false false 15)) ∷ [])

@@ -35,7 +35,7 @@ at y mo d h mi s z = flagged y mo d h mi s z false false false 0
 abbrev pub leapDay : ℕ → ℤ → Bool → Bool → Bool → ℕ → Reading
 leapDay s z summer leap change quality = flagged 2024 2 29 12 34 s z summer leap change quality
 
--- so many half hours east and west of UTC
+-- so many quarter hours east and west of UTC
 abbrev pub plus : ℕ → ℤ
 plus n = pos n
 
@@ -47,10 +47,10 @@ abbrev pub case6 : ℤ → Reading
 case6 z = at 2024 2 29 12 34 56 z
 
 abbrev pub case8 : Reading
-case8 = at 2024 2 29 12 34 0 (plus 2)
+case8 = at 2024 2 29 12 34 0 (plus 4)
 
 abbrev pub case9 : Reading
-case9 = at 2000 1 1 0 30 0 (plus 2)
+case9 = at 2000 1 1 0 30 0 (plus 4)
 
 -- ---- rows of pulses
 

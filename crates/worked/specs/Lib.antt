@@ -7,3 +7,4 @@ pub mod Places
 pub mod Telegrams
 pub mod ClockStrings
 pub mod CoastingMarks
+pub mod Quarters

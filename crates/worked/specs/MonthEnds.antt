@@ -51,9 +51,9 @@ aprilFrame before behind = frameWith (before ++ (10 ∷ 13 ∷ 15 ∷ 17 ∷ 20 
 
 -- ---- the minute
 
--- 1 March 2024, 01:00 at +2, which is 00:00 UTC, with a leap second announced or not
+-- 1 March 2024, 01:00 at +4, which is 00:00 UTC, with a leap second announced or not
 abbrev march : Bool → Reading
-march leap = flagged 2024 3 1 1 0 0 (plus 2) false leap false 0
+march leap = flagged 2024 3 1 1 0 0 (plus 4) false leap false 0
 
 -- its minute with the last mark at the place given, announced and not
 abbrev marchMarks : ℕ → List ℕ
@@ -121,12 +121,12 @@ monthEnds =
     ∷ gives (clockString (meinbergAt 28 2 23 2 23 59 60 utc)) (toldMeinberg (sixtyOn 2023 2 28) false)
     ∷ gives (clockString (meinbergAt 31 3 24 7 23 59 60 utc)) (toldMeinberg (sixtyOn 2024 3 31) false)
     ∷ gives (clockString (meinbergAt 30 4 24 2 23 59 60 utc)) (toldMeinberg (sixtyOn 2024 4 30) false)
-    -- the same second told at +2, at +4, both on the local next day, and at -14
+    -- the same second told at +4, at +8, both on the local next day, and at -28
     ∷ gives (stampOfString lastOfFebruary) (stamped 762575225)
     ∷ gives (stampOfString (meinbergAt 1 3 24 5 0 59 60 winterLeap)) (stamped 762575225)
     ∷ gives (stampOfString (meinbergAt 1 3 24 5 1 59 60 summerLeap)) (stamped 762575225)
-    ∷ gives (stamp (at 2024 2 29 16 59 60 (minus 14))) (stamped 762575225)
-    -- a local month end that is none of UTC: 29.02.24 at +2, 31.03.24 at +4
+    ∷ gives (stamp (at 2024 2 29 16 59 60 (minus 28))) (stamped 762575225)
+    -- a local month end that is none of UTC: 29.02.24 at +4, 31.03.24 at +8
     ∷ gives (clockString (meinbergAt 29 2 24 4 23 59 60 winter)) (refused 9 24)
     ∷ gives (clockString (meinbergAt 31 3 24 7 23 59 60 summer)) (refused 9 24)
     -- the pending bit, pulse 60: clear at 23:59:00, set at 23:59:01 and 23:59:59, clear at 23:59:60

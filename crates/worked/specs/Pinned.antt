@@ -65,7 +65,7 @@ pinned =
     -- code 1: wrong input length, or output shorter than the format
     gives (pulses (take 99 frame6)) (refused 1 0)
     ∷ gives (marks (take 59 minute8)) (refused 1 0)
-    ∷ gives (toPulses (case6 (plus 2)) (sevens 99)) (wroteNone 1 0 (sevens 99))
+    ∷ gives (toPulses (case6 (plus 4)) (sevens 99)) (wroteNone 1 0 (sevens 99))
     -- code 2 and the lowest bad place: pulses 5 and 76 are 1; mark 20 is 0; a string ends in `X`
     ∷ gives (pulses (turned (5 ∷ 76 ∷ []) frame6)) (refused 2 5)
     ∷ gives (marks (turned (20 ∷ []) minute8)) (refused 2 20)
@@ -94,27 +94,27 @@ pinned =
     -- code 10: pulse 61 is 1
     ∷ gives (pulses (turned (61 ∷ 75 ∷ []) frame6)) (refused 10 61)
     -- code 11: quality 3; both announcements; second 30
-    ∷ gives (toMeinberg (leapDay 56 (plus 2) false false false 3) false (sevens 32)) (wroteNone 11 0 (sevens 32))
-    ∷ gives (toMeinberg (leapDay 56 (plus 2) false true true 0) false (sevens 32)) (wroteNone 11 0 (sevens 32))
-    ∷ gives (toErlangen (leapDay 56 (plus 2) false false false 3) false position (sevens 68)) (wroteNone 11 0 (sevens 68))
-    ∷ gives (toMarks (leapDay 30 (plus 2) false false false 0) 0 (sevens 60)) (wroteNone 11 0 (sevens 60))
+    ∷ gives (toMeinberg (leapDay 56 (plus 4) false false false 3) false (sevens 32)) (wroteNone 11 0 (sevens 32))
+    ∷ gives (toMeinberg (leapDay 56 (plus 4) false true true 0) false (sevens 32)) (wroteNone 11 0 (sevens 32))
+    ∷ gives (toErlangen (leapDay 56 (plus 4) false false false 3) false position (sevens 68)) (wroteNone 11 0 (sevens 68))
+    ∷ gives (toMarks (leapDay 30 (plus 4) false false false 0) 0 (sevens 60)) (wroteNone 11 0 (sevens 60))
     -- pulses 60, 62, 63 and 71: leap pending, change pending, summer, quality 1
-    ∷ gives (pulses (turned (60 ∷ 75 ∷ []) frame6)) (told (leapDay 56 (plus 2) false true false 0))
-    ∷ gives (pulses (turned (62 ∷ 75 ∷ []) frame6)) (told (leapDay 56 (plus 2) false false true 0))
-    ∷ gives (pulses (turned (63 ∷ 75 ∷ []) frame6)) (told (leapDay 56 (plus 2) true false false 0))
-    ∷ gives (pulses (turned (71 ∷ 75 ∷ []) frame6)) (told (leapDay 56 (plus 2) false false false 1))
+    ∷ gives (pulses (turned (60 ∷ 75 ∷ []) frame6)) (told (leapDay 56 (plus 4) false true false 0))
+    ∷ gives (pulses (turned (62 ∷ 75 ∷ []) frame6)) (told (leapDay 56 (plus 4) false false true 0))
+    ∷ gives (pulses (turned (63 ∷ 75 ∷ []) frame6)) (told (leapDay 56 (plus 4) true false false 0))
+    ∷ gives (pulses (turned (71 ∷ 75 ∷ []) frame6)) (told (leapDay 56 (plus 4) false false false 1))
     -- marks 1 and 15 of the head, 16 change announced, 19 leap announced, and 1,0 at 17 and 18
     ∷ gives (marks (turned (1 ∷ 15 ∷ []) minute8)) (toldMinute case8 16385)
-    ∷ gives (marks (turned (16 ∷ []) minute8)) (toldMinute (leapDay 0 (plus 2) false false true 0) 0)
-    ∷ gives (marks (turned (19 ∷ []) minute8)) (toldMinute (leapDay 0 (plus 2) false true false 0) 0)
-    ∷ gives (marks (turned (17 ∷ 18 ∷ []) minute8)) (toldMinute (leapDay 0 (plus 4) true false false 0) 0)
+    ∷ gives (marks (turned (16 ∷ []) minute8)) (toldMinute (leapDay 0 (plus 4) false false true 0) 0)
+    ∷ gives (marks (turned (19 ∷ []) minute8)) (toldMinute (leapDay 0 (plus 4) false true false 0) 0)
+    ∷ gives (marks (turned (17 ∷ 18 ∷ []) minute8)) (toldMinute (leapDay 0 (plus 8) true false false 0) 0)
     -- `    `, `#*S!`, and in a Uni Erlangen string `#*S!A`
-    ∷ gives (clockString (meinberg6 32 32 32 32)) (toldMeinberg (case6 (plus 2)) false)
-    ∷ gives (clockString (meinberg6 35 42 83 33)) (toldMeinberg (leapDay 56 (plus 4) true false true 15) true)
-    ∷ gives (clockString (erlangen6 hourAhead (35 ∷ 42 ∷ 83 ∷ 33 ∷ 65 ∷ 32 ∷ 32 ∷ []))) (toldErlangen (leapDay 56 (plus 2) true true true 15) true)
+    ∷ gives (clockString (meinberg6 32 32 32 32)) (toldMeinberg (case6 (plus 4)) false)
+    ∷ gives (clockString (meinberg6 35 42 83 33)) (toldMeinberg (leapDay 56 (plus 8) true false true 15) true)
+    ∷ gives (clockString (erlangen6 hourAhead (35 ∷ 42 ∷ 83 ∷ 33 ∷ 65 ∷ 32 ∷ 32 ∷ []))) (toldErlangen (leapDay 56 (plus 4) true true true 15) true)
     -- the same bytes written, and `-12:00`
-    ∷ gives (toMeinberg (leapDay 56 (plus 4) true false true 15) true (sevens 34)) (wrote 32 (meinberg6 35 42 83 33 ++ sevens 2))
-    ∷ gives (toErlangen (leapDay 56 (minus 24) true true true 15) true position (sevens 70)) (wrote 68 (erlangen6 (45 ∷ 49 ∷ 50 ∷ 58 ∷ 48 ∷ 48 ∷ []) (35 ∷ 42 ∷ 83 ∷ 33 ∷ 65 ∷ 32 ∷ 32 ∷ []) ++ sevens 2))
+    ∷ gives (toMeinberg (leapDay 56 (plus 8) true false true 15) true (sevens 34)) (wrote 32 (meinberg6 35 42 83 33 ++ sevens 2))
+    ∷ gives (toErlangen (leapDay 56 (minus 48) true true true 15) true position (sevens 70)) (wrote 68 (erlangen6 (45 ∷ 49 ∷ 50 ∷ 58 ∷ 48 ∷ 48 ∷ []) (35 ∷ 42 ∷ 83 ∷ 33 ∷ 65 ∷ 32 ∷ 32 ∷ []) ++ sevens 2))
     -- the bridge at the edges of both windows: pulses 60 and 62 are 1 at 23:59:01 and 23:59:59, and at 23:58:59, 23:59:00 and
     -- 23:59:60 they are not
     ∷ gives (bridged (lastMinutes 58 59 32) (sevens 101)) (wrote 100 (lastFrame (1 ∷ 4 ∷ 6 ∷ 8 ∷ []) (75 ∷ 80 ∷ 81 ∷ 86 ∷ 88 ∷ 93 ∷ 95 ∷ 97 ∷ []) ++ sevens 1))

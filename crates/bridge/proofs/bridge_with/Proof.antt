@@ -1,9 +1,9 @@
--- `bridge::bridge_with` meets its contract: the writer of the frame, which could refuse a reading, refuses none that goes over.
--- Assumes nothing.
+-- `bridge::bridge_with` meets its contract: the writer of the frame, which could refuse a reading, refuses an odd quarter alone of
+-- those that a string says. Assumes nothing.
 use borrow.Author.Needs.{needs}
-use mathlib.Core.Bool.{Bool}
+use mathlib.Core.Bool.{Bool, true, false}
 use mathlib.Core.List.{List}
-use mathlib.Core.Path.{_≡_, sym, ap, _∙_}
+use mathlib.Core.Path.{_≡_, refl, sym, ap, _∙_}
 use Prim.Native.Nat.{ℕ, _≤_, _<_}
 use native.Mathlib.Omega.{arith}
 use lib.ListN.{length}
@@ -18,12 +18,15 @@ use Rattle.strings.specs.declared.Answer.{Answer}
 use Rattle.strings.specs.declared.Answer.the-variants.{Time, No}
 use Rattle.clock_string.specs.Reader.{readString, whichever}
 use Rattle.clock_string.proofs.ReadLaws.{Tells, refused-is}
+use Rattle.irig.specs.Offset.{oddQuarter}
 use Rattle.irig.specs.Faults.{frameLength}
 use Rattle.irig.specs.Writing.{frameOf, writeFault}
 use Rattle.irig.proofs.WriteLaws.{writable, written-frame}
+use Rattle.irig.proofs.QuarterLaws.{odd-fault}
 use Rattle.bridge.specs.declared.Coasting.{Coasting}
 use Rattle.bridge.specs.Bridge.{carriedBy, bridgeAnswer, bridgeFilled}
-use Rattle.bridge.proofs.BridgeLaws.{carried-checked, too-short-first, string-refusal-unchanged, accepted-written}
+use Rattle.bridge.proofs.CarriedLaws.{quarter-carried}
+use Rattle.bridge.proofs.BridgeLaws.{carried-checked, frame-carries, too-short-first, string-refusal-unchanged, odd-not-carried, accepted-written}
 use Rattle.bridge.proofs.bridge_with.Statement.{statement}
 use Rattle.bridge.proofs.bridge_with.Tie as tie
 
@@ -43,11 +46,24 @@ module _ (base : ℕ) (s : List ℕ) (way : Coasting) (out : List ℕ) where
         → w ≡ writtenOf (writeFault base p (length out)) frameLength → after ≡ filled (writeFault base p (length out)) (frameOf p) out
         → Right w after
     wrote r p coasting w after e q answer bytes =
-        let read : Tells base s r coasting = sym is ∙ e in
-        let l = accepted-written base s way out enough r coasting read in
-        let good = writable base (carriedBy way coasting r) (length out) enough (carried-checked base s way r coasting read) in
-        let f = written-frame base (carriedBy way coasting r) out good in
-        (answer ∙ rw q (f .0 ∙ sym (l .0)), bytes ∙ rw q (f .1 ∙ sym (l .1)))
+        go (oddQuarter (r .offset .0)) refl
+      where
+        c : Reading
+        c = carriedBy way coasting r
+
+        read : Tells base s r coasting
+        read = sym is ∙ e
+
+        go : (odd : Bool) → oddQuarter (r .offset .0) ≡ odd → Right w after
+        go true odd =
+            let l = odd-not-carried base s way out enough r coasting read odd in
+            let f = odd-fault base c (length out) enough (carried-checked base s way r coasting read) (quarter-carried r way coasting ∙ odd) in
+            (answer ∙ rw (q, f) (sym (l .0)), bytes ∙ rw (q, f) (sym (l .1)))
+        go false even =
+            let l = accepted-written base s way out enough r coasting read even in
+            let good = writable base c (length out) enough (frame-carries base s way r coasting read even) in
+            let f = written-frame base c out good in
+            (answer ∙ rw q (f .0 ∙ sym (l .0)), bytes ∙ rw q (f .1 ∙ sym (l .1)))
 
 refusal-of-requires : tie.Need-refusal-of-requires
 refusal-of-requires c κs = search needs
