@@ -1,6 +1,6 @@
 """Before anything is counted: the proved functions, the C baseline and the second program have to give the same answers, on
 every record that is counted, on damaged ones, around every month end, on inputs with one fault and with several, on strings of
-every length, on what becomes of the coasting mark, and on telegrams around every change."""
+every length, on what becomes of the coasting mark, on telegrams around every change, and on quarter hours."""
 import subprocess
 import sys
 
@@ -11,6 +11,7 @@ import case_coasting
 import case_door
 import case_months
 import case_places
+import case_quarters
 import case_telegrams
 from book import listing_text
 from case_parts import DROPPED, bridge_case, bridge_with_case, case
@@ -58,11 +59,11 @@ def cases_of_pulses():
 
 
 def cases_of_second():
-    """The leap rule at every month end, codes and places, lengths of strings, the coasting mark, and telegrams: the second
-    program's own cases, as far as the C baseline answers them."""
+    """The leap rule at every month end, codes and places, lengths of strings, the coasting mark, telegrams, and quarter hours:
+    the second program's own cases, as far as the C baseline answers them."""
     for name, make in (("month ends", case_months.make), ("codes and places", case_places.make),
                        ("lengths of strings", case_door.make), ("coasting mark", case_coasting.make),
-                       ("telegrams", case_telegrams.make)):
+                       ("telegrams", case_telegrams.make), ("quarter hours", case_quarters.make)):
         yield name, [one for one in make() if one[0] in ANSWERED_IN_C]
 
 
@@ -108,10 +109,11 @@ def compare_ways(programs):
 
 def compare_listings(programs, length):
     """The same for the listing program: a book, books cut short, some changes of a small one, and the second program's own
-    books of month ends, of faults, and of strings under the other's kind."""
+    books of month ends, of faults, of strings under the other's kind, and of quarter hours."""
     whole, small = records.book(length), records.book(10)
     books = [b"", whole, whole + bytes(65537), *(whole[:end] for end in range(0, len(whole), 997)), *damaged(small, 1009)]
-    books += [one[3:] for one in (*case_months.make(), *case_places.make(), *case_door.make()) if one[0] == BOOK]
+    for module in (case_months, case_places, case_door, case_quarters):
+        books += [one[3:] for one in module.make() if one[0] == BOOK]
     for one in books:
         wrote = [kit.output_of(program, one) for program in programs] + [listing_text(one).encode()]
         if any(text != wrote[0] for text in wrote):

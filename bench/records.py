@@ -19,18 +19,25 @@ ROOM = 128
 START = datetime.datetime(2000, 1, 1)
 STRINGS = ("Meinberg", "Uni Erlangen")
 FORMATS = (*STRINGS, "IEEE 1344", "DCF77")
-LARGEST_OFFSET = 28
-OFFSETS = 53
+# Offsets in quarter hours, from the largest down: all of them, those that a frame carries, and those that it does not.
+QUARTER_HOURS = range(56, -49, -1)
+HALF_HOURS = range(56, -49, -2)
+ODD_QUARTERS = range(55, -49, -2)
+STRIDE = 641  # a prime, so that every offset comes before any comes again
 LAST_DAY = 36494  # December 2099 is left out: its last hours name minutes of 2100
+
+
+def drawn_from(offsets, number):
+    return offsets[number * STRIDE % len(offsets)]
 
 
 def zone_of(form, number):
     """Offset and summer flag that the format can carry."""
     if form == "Meinberg":
-        return ((0, False), (2, False), (4, True))[number % 3]
+        return ((0, False), (4, False), (8, True))[number % 3]
     if form == "DCF77":
-        return ((2, False), (4, True))[number % 2]
-    return LARGEST_OFFSET - number * 5 % OFFSETS, number % 2 == 1
+        return ((4, False), (8, True))[number % 2]
+    return drawn_from(HALF_HOURS if form == "IEEE 1344" else QUARTER_HOURS, number), number % 2 == 1
 
 
 def quality_of(form, number):
@@ -97,6 +104,24 @@ def refused_late(form, number):
     return bytes(case_parts.raw_minute(long_minute_of(number), beside_of(form, number), length=60))
 
 
+def bridged(form, number):
+    """A string whose reading a frame carries."""
+    reading = reading_of(form, number)
+    if form == "Uni Erlangen":
+        reading = reading._replace(offset=drawn_from(HALF_HOURS, number))
+    return text_of(form, reading, number)
+
+
+def odd_quarter_of(form, number):
+    """A reading that no frame carries, for its offset alone."""
+    return reading_of(form, number)._replace(offset=drawn_from(ODD_QUARTERS, number))
+
+
+def bridged_in_vain(form, number):
+    """Refused by the bridge's last check. Uni Erlangen's string alone: Meinberg's zones have no odd quarter."""
+    return text_of(form, odd_quarter_of(form, number), number)
+
+
 def asked(form, reading, number, room=ROOM):
     """A writer's record: reading, what stands beside it, room, and the position part."""
     record = case_parts.reading_bytes(reading) + struct.pack("<HB", beside_of(form, number), room)
@@ -112,13 +137,12 @@ def without_room(form, number):
 
 
 def asked_in_vain(form, number):
-    """Refused by the writer's last check: what it cannot carry, second 60, or a long minute in the room of 60."""
-    reading = reading_of(form, number)
+    """Refused by the writer's last check: a quality or an offset that it cannot carry, or a long minute in the room of 60."""
     if form == "IEEE 1344":
-        return asked(form, reading._replace(second=60, minute=number % 59), number)
+        return asked(form, odd_quarter_of(form, number), number)
     if form == "DCF77":
         return asked(form, long_minute_of(number), number, room=60)
-    return asked(form, reading._replace(quality=1 + number % 14), number)
+    return asked(form, reading_of(form, number)._replace(quality=1 + number % 14), number)
 
 
 def rule_of(number):

@@ -27,7 +27,8 @@ def of_format(make, form):
 
 def record_rows():
     """Every reader, that of strings with either string, every writer, and the telegram: accepted, refused early, refused by its
-    last check; and the bridge with either string, as it is and with the coasting mark dropped."""
+    last check; and the bridge with either string, as it is and with the coasting mark dropped, and with one that it refuses by
+    its last check."""
     rows = []
     reads = (("accepted", records.accepted), ("refused: length", records.too_short),
              ("refused: first byte", records.first_byte_wrong), ("refused: last check", records.refused_late))
@@ -42,8 +43,10 @@ def record_rows():
                  ("refused: last check", records.telegram_too_late))
     rows += [Row(f"telegram, {name}", TELEGRAM, make, LOOP) for name, make in telegrams]
     bridges = (("accepted", BRIDGE), ("mark dropped", BRIDGE_DROPPING))
-    rows += [Row(f"bridge, {form}, {name}", op, of_format(records.accepted, form), LOOP)
+    rows += [Row(f"bridge, {form}, {name}", op, of_format(records.bridged, form), LOOP)
              for name, op in bridges for form in records.STRINGS]
+    in_vain = of_format(records.bridged_in_vain, "Uni Erlangen")
+    rows.append(Row("bridge, Uni Erlangen, refused: last check", BRIDGE, in_vain, LOOP))
     return rows
 
 

@@ -1,5 +1,5 @@
-"""Books that the repository holds: a short one that a newcomer lists first, one of month ends, and
-one of every refusal."""
+"""Books that the repository holds: a short one that a newcomer lists first, one of month ends, one of
+a plant at UTC+5:45, and one of every refusal."""
 
 from datetime import datetime
 
@@ -41,6 +41,17 @@ def month_ends() -> bytes:
                 (3, raw_frame(sixty(2024, 2, 29, 23, 0))),
                 (5, raw_minute(march, 0, 61)), (4, raw_minute(march, 0, 60))]
     return b"".join(bytes((kind,)) + bytes(body) for kind, body in records)
+
+
+def quarter_hours() -> bytes:
+    """The leap second of 2016 as a plant at UTC+5:45 told it, and a minute later, where none is; the moment
+    after it in four more zones; and offsets that are none."""
+    utc, after = datetime(2016, 12, 31, 23, 59), datetime(2017, 1, 1)
+    told = [local(utc, 23, 59), local(utc, 23, 60), local(after, 23), local(after, 23, 60)]
+    told += [local(after, offset) for offset in (22, -38, 56, -48)]
+    records = [raw_erlangen(reading) for reading in told]
+    records += [raw_erlangen(offset=text) for text in ("+05:50", "+14:15", "-12:15")]
+    return b"".join(b"\x02" + record for record in records)
 
 
 def every_refusal() -> bytes:

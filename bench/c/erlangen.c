@@ -35,13 +35,13 @@ static size_t first_bad_place(const uint8_t *s)
     return s[LAST] == 3 ? ERLANGEN_LENGTH : LAST;
 }
 
-/* The offset in half hours; false for minutes other than 00 and 30, minus zero, and what is out of range. */
+/* The offset in quarter hours; false for minutes other than 00, 15, 30 and 45, minus zero, and what is out of range. */
 static bool said_offset(const uint8_t *s, int8_t *offset)
 {
     unsigned hours = two_digits(s + OFFSET), minutes = two_digits(s + OFFSET + 3);
-    if (minutes != 0 && minutes != 30)
+    if (minutes >= 60 || minutes % MINUTES_PER_QUARTER != 0)
         return false;
-    int size = (int)(2 * hours + minutes / 30);
+    int size = (int)(QUARTERS_PER_HOUR * hours + minutes / MINUTES_PER_QUARTER);
     bool minus = s[SIGN] == '-';
     if (minus && size == 0)
         return false;
@@ -90,8 +90,8 @@ static void put_text(uint8_t *out, const struct reading *r, bool coasting)
     put_two_digits(out + 20, r->second);
     out[SIGN] = r->offset < 0 ? '-' : '+';
     memcpy(out + OFFSET, offset_digits, LETTERS - OFFSET);
-    put_two_digits(out + OFFSET, size / 2);
-    out[OFFSET + 3] = size % 2 ? '3' : '0';
+    put_two_digits(out + OFFSET, size / QUARTERS_PER_HOUR);
+    put_two_digits(out + OFFSET + 3, MINUTES_PER_QUARTER * (size % QUARTERS_PER_HOUR));
     out[32] = r->quality == 15 ? '#' : ' ';
     out[33] = coasting ? '*' : ' ';
     out[34] = r->summer ? 'S' : ' ';

@@ -8,6 +8,8 @@ static const char outline[] =
     "1111011112" "1111111112" "1111110002" "1111111112" "1111111102";
 enum { SECOND = 1, MINUTE = 10, HOUR = 20, DAY = 30, YEAR = 50, DELETION = 61, SIGN = 64, PARITY = 75, SECOND_OF_DAY = 80 };
 enum { MARK = 2 };
+/* The pulses count half hours, a reading's offset quarters. */
+enum { QUARTERS_PER_HALF = 2 };
 
 static size_t first_bad_place(const uint8_t *s)
 {
@@ -85,7 +87,7 @@ struct answer frame_read(const uint8_t *s, size_t length, struct reading *r)
         return refused_at(WRONG_DATE, DAY);
     if (bits(s + 80, 9) + (bits(s + 90, 8) << 9) != r->hour * 3600u + r->minute * 60u + r->second)
         return refused_at(WRONG_SECOND_OF_DAY, SECOND_OF_DAY);
-    int added = (int)(2 * bits(s + 65, 4) + s[70]);
+    int added = QUARTERS_PER_HALF * (int)(2 * bits(s + 65, 4) + s[70]);
     bool minus = s[SIGN];
     r->offset = (int8_t)(minus ? added : -added);
     if ((minus && added == 0) || !offset_is_good(r->offset))
@@ -127,19 +129,21 @@ struct answer frame_write(const struct reading *r, uint8_t *out, size_t room)
     uint8_t code = reading_code(r, 0);
     if (code)
         return refused(code);
+    if (r->offset % QUARTERS_PER_HALF != 0)
+        return refused(NOT_CARRIED);
     memset(out, 0, FRAME_LENGTH);
     out[0] = MARK;
     for (size_t mark = 9; mark < FRAME_LENGTH; mark += 10)
         out[mark] = MARK;
     put_time(out, r);
     put_date(out, r);
-    unsigned size = (unsigned)(r->offset < 0 ? -r->offset : r->offset);
+    unsigned halves = (unsigned)(r->offset < 0 ? -r->offset : r->offset) / QUARTERS_PER_HALF;
     out[60] = r->leap;
     out[62] = r->change;
     out[63] = r->summer;
     out[64] = r->offset > 0; /* what is added to local time is then minus */
-    put_bits(out + 65, 4, size / 2);
-    out[70] = size % 2;
+    put_bits(out + 65, 4, halves / 2);
+    out[70] = halves % 2;
     put_bits(out + 71, 4, r->quality);
     out[PARITY] = is_odd(out, 1, PARITY - 1);
     return accepted(FRAME_LENGTH);

@@ -35,7 +35,7 @@ struct answer meinberg_read(const uint8_t *s, struct reading *r, bool *coasting)
     r->minute = two_digits(s + 21);
     r->second = two_digits(s + 24);
     r->quality = s[27] == '#' ? 15 : 0;
-    r->offset = s[29] == 'U' ? 0 : s[29] == 'S' ? 4 : 2;
+    r->offset = s[29] == 'U' ? 0 : s[29] == 'S' ? SUMMER_OFFSET : WINTER_OFFSET;
     r->summer = s[29] == 'S';
     r->leap = s[30] == 'A';
     r->change = s[30] == '!';
@@ -50,7 +50,7 @@ struct answer meinberg_read(const uint8_t *s, struct reading *r, bool *coasting)
 
 static bool is_carried(const struct reading *r)
 {
-    bool zone = r->summer ? r->offset == 4 : r->offset == 0 || r->offset == 2;
+    bool zone = r->summer ? r->offset == SUMMER_OFFSET : r->offset == 0 || r->offset == WINTER_OFFSET;
     return zone && !(r->leap && r->change) && (r->quality == 0 || r->quality == 15);
 }
 

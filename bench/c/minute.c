@@ -47,7 +47,7 @@ static void set_fields(struct reading *r, const uint8_t *s)
     r->quality = 0;
     r->change = s[16];
     r->summer = s[17];
-    r->offset = s[17] ? 4 : 2;
+    r->offset = s[17] ? SUMMER_OFFSET : WINTER_OFFSET;
     r->leap = s[19];
 }
 
@@ -98,7 +98,7 @@ struct answer minute_read(const uint8_t *s, size_t length, struct reading *r, ui
 
 static bool is_carried(const struct reading *r)
 {
-    return r->second == 0 && r->quality == 0 && r->offset == (r->summer ? 4 : 2);
+    return r->second == 0 && r->quality == 0 && r->offset == (r->summer ? SUMMER_OFFSET : WINTER_OFFSET);
 }
 
 static void put_marks(uint8_t *out, const struct reading *r, uint16_t head)

@@ -11,10 +11,15 @@ enum {
     WRONG_QUALITY /* or the head */, WRONG_RULE
 };
 
+/* What an offset counts, and how far it goes to either side of UTC. */
+enum { MINUTES_PER_QUARTER = 15, QUARTERS_PER_HOUR = 4, LOWEST_OFFSET = -48, HIGHEST_OFFSET = 56 };
+/* Central European time's. */
+enum { WINTER_OFFSET = QUARTERS_PER_HOUR, SUMMER_OFFSET = 2 * QUARTERS_PER_HOUR };
+
 struct reading {
     uint16_t year;
     uint8_t month, day, hour, minute, second;
-    int8_t offset; /* local minus UTC, in half hours */
+    int8_t offset; /* local minus UTC, in quarter hours */
     bool summer, leap, change;
     uint8_t quality;
 };
@@ -71,7 +76,10 @@ static inline bool date_is_good(const struct reading *r)
 
 static inline bool time_is_good(const struct reading *r) { return r->hour <= 23 && r->minute <= 59 && r->second <= 60; }
 
-static inline bool offset_is_good(int offset) { return offset >= -24 && offset <= 28; }
+static inline bool offset_is_good(int offset) { return offset >= LOWEST_OFFSET && offset <= HIGHEST_OFFSET; }
+
+/* The local minute of the day less the offset: UTC's, but 1440 too low or too high where UTC has another date. */
+static inline int utc_minutes(const struct reading *r) { return r->hour * 60 + r->minute - MINUTES_PER_QUARTER * r->offset; }
 
 /* The UTC minute of the day, 0 to 1439, and the UTC month and day of a reading with good fields. */
 struct utc {
@@ -81,7 +89,7 @@ struct utc {
 
 static inline struct utc utc_of(const struct reading *r)
 {
-    struct utc u = {r->hour * 60 + r->minute - 30 * r->offset, r->month, r->day};
+    struct utc u = {utc_minutes(r), r->month, r->day};
     if (u.minute < 0) {
         u.minute += 1440;
         if (--u.day == 0) {
@@ -118,7 +126,7 @@ static inline bool second_is_good(const struct reading *r) { return r->second !=
 /* The stamp of a reading that its reader accepted; false where its UTC day lies outside 2000 to 2099. */
 static inline bool stamp_of(const struct reading *r, uint64_t *stamp)
 {
-    int minute = r->hour * 60 + r->minute - 30 * r->offset;
+    int minute = utc_minutes(r);
     int day = (int)day_number(r->year, r->month, r->day) + (minute < 0 ? -1 : minute >= 1440 ? 1 : 0);
     if (day < 0 || day > 36524)
         return false;

@@ -60,7 +60,7 @@ static void set_summer(struct reading *r, const struct summer_rule *rule, const 
     unsigned begin = day_of_change(&rule->begin, r->year), end = day_of_change(&rule->end, r->year);
     unsigned hour = day * 24 + r->hour;
     r->summer = begin * 24 + 1 <= hour && hour < end * 24 + 1;
-    r->offset = r->summer ? 4 : 2;
+    r->offset = r->summer ? SUMMER_OFFSET : WINTER_OFFSET;
     r->change = sent->hour == 0 && (day == begin || day == end);
 }
 
@@ -72,7 +72,7 @@ static bool is_last_hour_of(const struct leap_second *leap, const struct sent_mi
 /* From UTC to the time of the zone. */
 static void go_to_zone(struct reading *r)
 {
-    r->hour += r->offset / 2;
+    r->hour += r->offset / QUARTERS_PER_HOUR;
     if (r->hour >= 24) {
         r->hour -= 24;
         go_to_next_day(r);
