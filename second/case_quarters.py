@@ -1,6 +1,6 @@
 """Cases on offsets in quarter hours: every number at every writer and at stamping; in some hours, all
 minutes of an offset that a string can say; every offset at the bridge; odd quarters, which a frame does
-not carry, beside each other fault; second 60 and the ends of days, months and the hundred years in
+not carry, beside every other fault; second 60 and the ends of days, months and the hundred years in
 zones of odd quarters; and books of such strings."""
 
 from datetime import datetime, timedelta

@@ -40,7 +40,7 @@ module _ (base : ℕ) (s : List ℕ) where
   pub carried-checked : (way : Coasting) (r : Reading) (coasting : Bool) → Tells base s r coasting → checkedOf base (carriedBy way coasting r) ≡ Good
   carried-checked way r coasting e = carried-good base way coasting r (accepted-checked base s r coasting e)
 
-  -- so that at no odd quarter no frame is refused
+  -- so that a frame carries it, unless its quarter is odd
   pub frame-carries : (way : Coasting) (r : Reading) (coasting : Bool) → Tells base s r coasting → oddQuarter (r .offset .0) ≡ false
       → carriedOf base (carriedBy way coasting r) ≡ Good
   frame-carries way r coasting e even =

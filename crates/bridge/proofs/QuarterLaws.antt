@@ -1,5 +1,5 @@
 -- What L9 asks of the bridge: "an odd quarter at .. the bridge is 11", and nothing else is; the room's refusal and the string's own go
--- before it. A Meinberg string has no odd quarter, so that it always goes over.
+-- before it. A Meinberg string has no odd quarter, so that it never meets it.
 use mathlib.Core.Bool.{Bool, true, false}
 use mathlib.Core.List.{List}
 use mathlib.Core.Logic.{inl, inr, _↔_}
@@ -49,10 +49,10 @@ module _ (base : ℕ) (s : List ℕ) where
       there (inr (h, inl a)) = absurd (string-never-11 eleven a refl)
       there (inr (h, inr a)) = (h, a .0)
 
-  -- "x is `U`, space or `S`": whole hours from UTC, which no odd quarter is
-  pub meinberg-goes-over : (r : Reading) (coasting : Bool) → readString base s ≡ Meinberg r coasting → oddQuarter (r .offset .0) ≡ false
+  -- "x is `U` (offset 0), space (..) or `S` (..)": whole hours from UTC, which no odd quarter is
+  pub meinberg-never-odd : (r : Reading) (coasting : Bool) → readString base s ≡ Meinberg r coasting → oddQuarter (r .offset .0) ≡ false
   unfolding oddQuarter
-  meinberg-goes-over r coasting e =
+  meinberg-never-odd r coasting e =
       let h = meinberg-whole-hours base s r coasting e in
       let w : (west (r .offset .0) + east (r .offset .0)) % perHalf ≡ 0 = omega arith in
       rw (eq-eqb ((west (r .offset .0) + east (r .offset .0)) % perHalf) 0 w)

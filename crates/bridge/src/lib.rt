@@ -1,6 +1,6 @@
 // The bridge: reads a clock string and writes the IEEE 1344 frame of its reading. A frame has no place for the coasting mark: the
 // clock looks worse in it, unless the caller names the way that drops the mark. The two announcements go over only in the minute
-// before they come true.
+// before they come true. An odd quarter hour has no frame.
 use clock_string::read;
 use irig::Ieee1344;
 use reading::Fault;
@@ -50,7 +50,7 @@ pub fn bridge_with(s: &[u8], way: Coasting, out: &mut [u8]) -> Written
     }
 }
 
-// Every refusal says why, and leaves `out` as it was.
+// The room's refusal and the string's: each says why, and leaves `out` as it was. An odd quarter is refused by the frame's writer.
 fn refuse(refusal: Refusal, out: &mut [u8]) -> Written
     ensures { λ w. ⌜ w ≡ Written.No refusal ⌝ }
     ensures { λ w. ⌜ now (out .exit) ≡ now (out .entry) ⌝ }

@@ -98,16 +98,16 @@ module _ (base : ℕ) (s : List ℕ) (r : Reading) (coasting : Bool) where
       go (erlangen h w) = (h, from-erlangen (readErlangen base s) r coasting (sym w ∙ e))
       go (neither w) = let z : _≡_ {A = ℕ} 0 1 = cc in clash z
 
-  -- at whole hours from UTC, which its three zones are
-  pub meinberg-whole-hours : readString base s ≡ Meinberg r coasting → WholeHours (r .offset .0)
-  meinberg-whole-hours e = accepted-whole-hours base s r coasting (is-meinberg e .1)
-
   -- and all that either of them says is answered
   pub meinberg-told : readMeinberg base s ≡ Time r coasting → readString base s ≡ Meinberg r coasting
   meinberg-told e = at-32 base s (meinberg-length base s r coasting e) ∙ ap asMeinberg e
 
   pub erlangen-told : readErlangen base s ≡ Time r coasting → readString base s ≡ Erlangen r coasting
   erlangen-told e = at-68 base s (erlangen-length base s r coasting e) ∙ ap asErlangen e
+
+  -- a Meinberg time is at whole hours from UTC, as its three zones are
+  pub meinberg-whole-hours : readString base s ≡ Meinberg r coasting → WholeHours (r .offset .0)
+  meinberg-whole-hours e = accepted-whole-hours base s r coasting (is-meinberg e .1)
 
 -- two answers name the same string
 abbrev pub SameString : Answer → Answer → Type 0

@@ -8,7 +8,7 @@ use borrow.Author.Tests.{ltb-false, le-ltb, eqb-true, eq-eqb, not-false}
 use lib.Dec.{T, eqb, ltb, eqb-refl}
 use lib.IntN.{ℤ, pos, negsuc}
 use lib.ListN.{length, drop}
-use Rattle.laws.proofs.Bools.{both, holds, is-true}
+use Rattle.laws.proofs.Bools.{both, or-true, holds, is-true}
 use Rattle.laws.specs.Tests.{same}
 use Rattle.laws.proofs.Signed.{same-is}
 use Rattle.reading.specs.declared.Reading.{Reading}
@@ -53,10 +53,6 @@ pub record Carried (base : ℕ) (r : Reading) (h : ℕ) : Type 0 where
 or-false : (b : Bool) → (b || false) ≡ b
 or-false true = refl
 or-false false = refl
-
-or-true : (b : Bool) → (b || true) ≡ true
-or-true true = refl
-or-true false = refl
 
 same-self : (z : ℤ) → T (same z z)
 same-self (pos n) = eqb-refl n

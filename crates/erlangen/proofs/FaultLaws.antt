@@ -1,7 +1,7 @@
 -- What the verdict on a string, or on what a writer is given, tells: its length, its bytes, and the reading.
 use mathlib.Core.Bool.{false, not}
 use mathlib.Core.List.{List}
-use mathlib.Core.Path.{_≡_, refl, _∙_}
+use mathlib.Core.Path.{_≡_, _∙_}
 use Prim.Native.Nat.{ℕ, _≤_, _<_}
 use native.Mathlib.Omega.{arith}
 use lib.Dec.{eqb, ltb}

@@ -1,5 +1,5 @@
--- L9, "The reading's offset becomes quarter hours, -48..+56. Uni Erlangen takes minutes 00, 15, 30 and 45": each of them goes into a
--- string and comes back.
+-- L9, "The reading's offset becomes quarter hours, -48..+56. Uni Erlangen takes minutes 00, 15, 30 and 45": no other minutes are taken,
+-- and each of the 105 offsets goes into a string and comes back.
 use mathlib.Core.Bool.{Bool, true, false, Bool·beq, _&&_}
 use mathlib.Core.List.{List, [], _∷_}
 use mathlib.Core.Path.{_≡_, refl}

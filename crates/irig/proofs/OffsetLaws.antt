@@ -1,5 +1,5 @@
 -- The offset of a frame: a sign and half hours say one amount and no other, and it is the opposite of local minus UTC. An offset
--- that is no odd quarter comes back from them, and what they say is none.
+-- that is no odd quarter comes back from them, and what they say is never an odd quarter.
 use mathlib.Core.Path.{_≡_, refl, sym, ap, subst, _∙_}
 use mathlib.Core.Bool.{Bool, true, false, _&&_}
 use Prim.Native.Nat.{ℕ, zero, suc, _+_, _*_, _/_, _%_, _<_, _≤_}

@@ -6,7 +6,7 @@ use mathlib.Core.Logic.{_↔_}
 use mathlib.Core.Path.{_≡_, refl, sym, ap, subst, _∙_}
 use Prim.Native.Nat.{ℕ, _+_, _*_, _≤_}
 use native.Mathlib.Omega.{arith}
-use borrow.Author.Tests.{le-ltb, ltb-false}
+use borrow.Author.Tests.{ltb-false}
 use lib.Dec.{ltb}
 use lib.ListN.{length}
 use Rattle.laws.proofs.Bools.{never}
@@ -22,16 +22,17 @@ use Rattle.reading.specs.Writing.{andThen, writtenOf, filled}
 use Rattle.reading.specs.Offset.{west, east, offsetGood}
 use Rattle.reading.specs.Checks.{checkedOf}
 use Rattle.reading.proofs.CheckLaws.{clash, checked-is}
-use Rattle.reading.proofs.WrittenLaws.{checks-not-11, untouched}
+use Rattle.reading.proofs.OwedLaws.{checks-not-11}
 use Rattle.pulses.specs.Row.{sumsOf}
 use Rattle.irig_table.specs.Table.{framePulses}
 use Rattle.irig.specs.declared.Answer.the-variants.{Time}
 use Rattle.irig.specs.Offset.{oddQuarter}
-use Rattle.irig.specs.Meaning.{halvesIn, readingOf}
+use Rattle.irig.specs.Meaning.{halvesIn}
 use Rattle.irig.specs.Faults.{frameLength, readFrame}
 use Rattle.irig.specs.Writing.{frameOf, carriedOf, writeFault}
 use Rattle.irig.proofs.GroupLaws.{sums-fit}
 use Rattle.irig.proofs.CarriedLaws.{carried-parts}
+use Rattle.irig.proofs.WriteLaws.{odd-fault, refused-untouched}
 use Rattle.irig.proofs.AgainLaws.{offset-twice}
 use Rattle.irig.proofs.FrameLaws.{accepted}
 use Rattle.irig.proofs.RoundTrip.{accepted-carried}
@@ -39,7 +40,7 @@ use Rattle.irig.proofs.RoundTrip.{accepted-carried}
 -- ---- the reader
 
 module _ (base : ℕ) (s : List ℕ) (r : Reading) (e : readFrame base s ≡ Time r) where
-  -- so many quarter hours to one side of UTC as its pulses say half hours, twice
+  -- its quarter hours, to whichever side of UTC, are twice the half hours that its pulses say
   pub twice-the-half-hours : west (r .offset .0) + east (r .offset .0) ≡ 2 * halvesIn (sumsOf framePulses s)
   twice-the-half-hours =
       let a = accepted base s r e in
@@ -61,13 +62,9 @@ codeIn (No x) = x .code
 
 module _ (base : ℕ) (r : Reading) (room : ℕ) where
   -- an odd quarter, where nothing else is wrong
-  pub odd-fault : frameLength ≤ room → checkedOf base r ≡ Good → oddQuarter (r .offset .0) ≡ true → writeFault base r room ≡ Bad NotCarried
-  unfolding writeFault carriedOf
-  odd-fault h e f = rw (le-ltb room frameLength h, e, f)
-
   pub odd-refused : frameLength ≤ room → checkedOf base r ≡ Good → oddQuarter (r .offset .0) ≡ true → writtenOf (writeFault base r room) frameLength ≡ No eleven
   unfolding number
-  odd-refused h e f = rw (odd-fault h e f)
+  odd-refused h e f = rw (odd-fault base r room h e f)
 
   -- and 11 exactly there
   pub eleven-exactly : (writtenOf (writeFault base r room) frameLength ≡ No eleven)
@@ -83,12 +80,11 @@ module _ (base : ℕ) (r : Reading) (room : ℕ) where
       go false s Good c false o e = let z : _≡_ {A = ℕ} 0 1 = cc in clash z
       go false s Good c true o e = (ltb-false room frameLength s, c, o)
 
-  -- "+57 and -49 refused" by 8: what is out of range is no odd quarter of the frame's, whichever it is
+  -- "+57 and -49 refused", by 8: an offset out of range is never 11, odd or not
   pub out-of-range-not-11 : offsetGood (r .offset .0) ≡ false → writtenOf (writeFault base r room) frameLength ≡ No eleven → ⊥
   out-of-range-not-11 far e = never (sym far ∙ checked-is base r (eleven-exactly .0 e .1) .offset)
 
 -- "A refusal leaves all lent memory untouched."
 pub odd-untouched : (base : ℕ) (r : Reading) (buffer : List ℕ) → frameLength ≤ length buffer → checkedOf base r ≡ Good → oddQuarter (r .offset .0) ≡ true
     → filled (writeFault base r (length buffer)) (frameOf r) buffer ≡ buffer
-odd-untouched base r buffer h e f =
-    untouched (writeFault base r (length buffer)) frameLength (frameOf r) buffer eleven (odd-refused base r (length buffer) h e f)
+odd-untouched base r buffer h e f = refused-untouched base r buffer NotCarried (odd-fault base r (length buffer) h e f) .1

@@ -118,7 +118,7 @@ cases-written = refl
 
 -- ---- a reading at any offset that one may have passes the checks, and at no odd quarter it is written and read
 
-pub at-offset-checked : (z : ℤ) → offsetGood z ≡ true → checkedOf base (atOffset z) ≡ Good
+at-offset-checked : (z : ℤ) → offsetGood z ≡ true → checkedOf base (atOffset z) ≡ Good
 unfolding checkedOf timeBad dateBad inHundred isDate isMonth isDay lastDay daysIn leapYear sixtyBad
 at-offset-checked z e = rw e
 

@@ -1,4 +1,5 @@
--- The writer: the length of a frame, when there is room for it, and what a refusal leaves.
+-- The writer: the length of a frame, when there is room for it, when it is written, and what a refusal leaves.
+use mathlib.Core.Bool.{true}
 use mathlib.Core.Path.{_≡_, refl, ap, _∙_}
 use mathlib.Core.List.{List, _++_}
 use Prim.Native.Nat.{ℕ, _≤_}
@@ -8,14 +9,17 @@ use lib.ListN.{length, drop, take}
 use lib.Seq.{take-at}
 use Rattle.reading.specs.declared.Reading.{Reading}
 use Rattle.reading.specs.declared.Fault.{Fault}
+use Rattle.reading.specs.declared.Fault.the-variants.{NotCarried}
 use Rattle.reading.specs.declared.Verdict.the-variants.{Good, Bad}
 use Rattle.reading.specs.declared.Written.the-variants.{Length, No}
 use Rattle.reading.specs.Faults.{number}
 use Rattle.reading.specs.Writing.{writtenOf, filled}
+use Rattle.reading.specs.Checks.{checkedOf}
 use Rattle.reading.proofs.CheckLaws.{first-good}
 use Rattle.pulses.proofs.RowLaws.{length-row}
 use Rattle.irig_table.specs.Table.{framePulses}
 use Rattle.irig_table.proofs.TableLaws.{frame-length}
+use Rattle.irig.specs.Offset.{oddQuarter}
 use Rattle.irig.specs.Faults.{frameLength}
 use Rattle.irig.specs.Writing.{valuesOf, parityOf, frameOf, carriedOf, writeFault}
 
@@ -33,6 +37,12 @@ room-enough base r room e =
 pub writable : (base : ℕ) (r : Reading) (room : ℕ) → frameLength ≤ room → carriedOf base r ≡ Good → writeFault base r room ≡ Good
 unfolding writeFault
 writable base r room h e = rw (le-ltb room frameLength h) e
+
+-- an odd quarter is not carried, where nothing else is wrong
+pub odd-fault : (base : ℕ) (r : Reading) (room : ℕ) → frameLength ≤ room → checkedOf base r ≡ Good → oddQuarter (r .offset .0) ≡ true
+    → writeFault base r room ≡ Bad NotCarried
+unfolding writeFault carriedOf
+odd-fault base r room h e f = rw (le-ltb room frameLength h, e, f)
 
 -- "A refusal leaves all lent memory untouched."
 pub refused-untouched : (base : ℕ) (r : Reading) (buffer : List ℕ) (x : Fault) → writeFault base r (length buffer) ≡ Bad x

@@ -73,7 +73,7 @@ digitsIn v = said v years + 10 * said v tensOfYears
 unfoldable pub halvesIn : List ℕ → ℕ
 halvesIn v = 2 * said v offsetHours + said v halfHour
 
--- what is added to local time to give UTC, in quarter hours: twice as many
+-- what is added to local time to give UTC, in quarter hours, twice as many as half hours
 unfoldable pub addedIn : List ℕ → ℤ
 addedIn v = amountOf (isSet v minus) (halvesIn v)
 

@@ -1,4 +1,5 @@
--- The offset as an IEEE 1344 frame has it: a sign and half hours, which are added to local time to give UTC.
+-- The offset as an IEEE 1344 frame has it: a sign and half hours, which are added to local time to give UTC; and which offsets of a
+-- reading it cannot have.
 use mathlib.Core.Bool.{Bool, true, false, cond, not}
 use Prim.Native.Nat.{ℕ, _+_, _*_, _/_, _%_}
 use lib.Dec.{eqb}

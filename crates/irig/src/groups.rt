@@ -88,6 +88,7 @@ pub(crate) fn write_fault(r: Reading, room: usize) -> Verdict
     if let Verdict::Bad(fault) = checked(r) {
         return Verdict::Bad(fault);
     }
+    // Last: an offset out of range is 8, although it may be odd.
     let offset = r.offset;
     if odd_quarter(offset) {
         return Verdict::Bad(Fault::NotCarried);

@@ -17,6 +17,10 @@ pub either : (a b : Bool) → (a || b) ≡ true → (a ≡ true) ⊎ (b ≡ true
 either true b e = inl refl
 either false b e = inr e
 
+pub or-true : (a : Bool) → (a || true) ≡ true
+or-true true = refl
+or-true false = refl
+
 pub holds : (a : Bool) → a ≡ true → T a
 holds true e = tt
 holds false e = absurd (subst T (sym e) tt)

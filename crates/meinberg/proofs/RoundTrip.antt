@@ -132,11 +132,6 @@ module _ (base : ℕ) (s : List ℕ) (r : Reading) (coasting : Bool) (read : rea
   pub accepted-checked : checkedOf base r ≡ Good
   accepted-checked = writable base r textLength (read-writable textLength (omega arith)) .checked
 
-  -- at whole hours from UTC
-  pub accepted-whole-hours : WholeHours (r .offset .0)
-  unfolding meaning
-  accepted-whole-hours = subst (λ (m : Reading). WholeHours (m .offset .0)) (told .time) (letter-whole-hours (getD s zonePlace 0))
-
   -- so that stamping refuses it by 12 alone
   pub accepted-stamped : (n : Refusal) → stampOf base r ≡ Refused n → n ≡ number OutsideYears
   accepted-stamped n e = go (hasStamp (utcOf r .date .year)) refl
@@ -147,6 +142,11 @@ module _ (base : ℕ) (s : List ℕ) (r : Reading) (coasting : Bool) (read : rea
           let z : _≡_ {A = ℕ} 0 1 = cc in
           clash z
       go false h = let s = refused-by-12 base r accepted-checked h in cc
+
+  -- its offset is whole hours from UTC
+  pub accepted-whole-hours : WholeHours (r .offset .0)
+  unfolding meaning
+  accepted-whole-hours = subst (λ (m : Reading). WholeHours (m .offset .0)) (told .time) (letter-whole-hours (getD s zonePlace 0))
 
 -- ---- "Accept exactly the strings that document 01 draws": a string says a time where it is the bytes of a reading that is written
 

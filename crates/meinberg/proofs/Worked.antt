@@ -109,8 +109,9 @@ unfolding readMeinberg faultIn meaning coastingIn qualityOf offsetOf summerOf
     closesWithLeap leapMinute sixtyBad west east utcMinutes onDay utcOf
 worked = refl
 
--- "x is `U` (offset 0), space (offset +2 half hours) or `S` (+4, summer)" with offsets that L9 doubles, "u is `#` (quality 15) or space (0)", "v is `*`
--- (coasting) or space", "y is `!`, `A` or space"; weekday 0, 8 or 9 is code 16, another than the date's is 6, and `%` is no u
+-- "x is `U` (offset 0), space (offset +2 half hours) or `S` (+4, summer)" with offsets that L9 doubles, "u is `#` (quality 15) or space
+-- (0)", "v is `*` (coasting) or space", "y is `!`, `A` or space"; weekday 0, 8 or 9 is code 16, another than the date's is 6, and `%` is
+-- no u
 pub worked-letters :
     (map (readMeinberg base) (
     string 52 32 32 85 32 ∷ string 52 32 32 32 32 ∷ string 52 32 32 83 32

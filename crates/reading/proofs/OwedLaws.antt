@@ -1,15 +1,18 @@
 -- The code and place of a refusal by the checks that every writer shares, and by stamping.
 use mathlib.Core.Bool.{Bool, true, false, cond, not}
 use mathlib.Core.List.{List, []}
-use mathlib.Core.Path.{_≡_, refl}
+use mathlib.Core.Path.{_≡_, refl, sym, ap, _∙_}
 use Prim.Native.Nat.{ℕ}
+use Rattle.laws.specs.Tests.{among}
+use Rattle.laws.proofs.Bools.{never}
 use Rattle.reading.specs.declared.Reading.{Reading}
 use Rattle.reading.specs.declared.Refusal.{Refusal}
+use Rattle.reading.specs.declared.Fault.{Fault}
 use Rattle.reading.specs.declared.Fault.the-variants.{OutsideYears}
 use Rattle.reading.specs.declared.Verdict.{Verdict}
 use Rattle.reading.specs.declared.Verdict.the-variants.{Good, Bad}
 use Rattle.reading.specs.declared.Stamp.the-variants.{At, Refused}
-use Rattle.reading.specs.Faults.{number, first}
+use Rattle.reading.specs.Faults.{codeOf, number, first}
 use Rattle.reading.specs.Writing.{andThen, writtenOf}
 use Rattle.reading.specs.Universal.{utcOf}
 use Rattle.reading.specs.Checks.{checkedOf}
@@ -22,6 +25,13 @@ use Rattle.reading.proofs.OneDue.{owed-one}
 pub checked-through : (base : ℕ) (r : Reading) → Through (readingObjections base r) (checkedOf base r)
 unfolding readingObjections checkObjections checkedOf
 checked-through base r = search (judged, none) depth 10
+
+-- they refuse nothing by 11, which is each format's own
+pub checks-not-11 : (base : ℕ) (r : Reading) (x : Fault) → checkedOf base r ≡ Bad x → codeOf x ≡ 11 → ⊥
+unfolding readingObjections checkObjections number
+checks-not-11 base r x e c =
+    let owed : VerdictOwed (readingObjections base r) stampCodes (Bad x) = rw e at (verdict-owed stampCodes (checked-through base r) refl refl) in
+    never (ap (λ (code : ℕ). among code stampCodes) (sym c) ∙ owed .1)
 
 -- what is promised of a verdict is promised of the writer that found it
 pub written-owed : (l : List Objection) (codes : List ℕ) (v : Verdict) (n : ℕ) → VerdictOwed l codes v → WrittenOwed l codes (writtenOf v n)

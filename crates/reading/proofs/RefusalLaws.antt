@@ -8,7 +8,7 @@ use native.Mathlib.Omega.{arith}
 use lib.Dec.{eqb}
 use borrow.Author.Tests.{eq-eqb, eqb-true, le-ltb, not-true}
 use Rattle.laws.specs.Tests.{among}
-use Rattle.laws.proofs.Bools.{both, either, never}
+use Rattle.laws.proofs.Bools.{both, either, or-true, never}
 use Rattle.reading.specs.declared.Refusal.{Refusal}
 use Rattle.reading.specs.declared.Fault.{Fault}
 use Rattle.reading.specs.declared.Fault.the-variants.{Length}
@@ -224,11 +224,7 @@ module _ (code place : ℕ) where
   raised-last : (l : List Objection) → raised (l ++ (last ∷ [])) (refusalOf last) ≡ true
   unfolding raised
   raised-last [] = rw (eq-eqb code code refl, eq-eqb place place refl)
-  raised-last (o ∷ l) = rw (raised-last l) (true-after (o .holds && (eqb (o .code) code && eqb (o .place) place)))
-    where
-      true-after : (b : Bool) → (b || true) ≡ true
-      true-after true = refl
-      true-after false = refl
+  raised-last (o ∷ l) = rw (raised-last l) (or-true (o .holds && (eqb (o .code) code && eqb (o .place) place)))
 
   unpreceded-last : (l : List Objection) → quiet l ≡ true → unpreceded (l ++ (last ∷ [])) (refusalOf last) ≡ true
   unfolding quiet unpreceded

@@ -24,7 +24,7 @@ unfoldable pub east : ℤ → ℕ
 east (pos n) = n
 east (negsuc n) = 0
 
--- "local minus UTC", and no farther than that to either side
+-- "offset in half hours, local minus UTC, -24..+28"; amended by L9: "quarter hours, -48..+56"
 unfoldable pub offsetGood : ℤ → Bool
 offsetGood z = leb (west z) westmost && leb (east z) eastmost
 

@@ -7,7 +7,7 @@ use Prim.Native.Nat.{ℕ, _+_, _-_, _*_, _%_, _≤_, _<_}
 use native.Mathlib.Omega.{arith}
 use lib.Dec.{eqb, leb, ltb}
 use borrow.Author.Tests.{le-leb, lt-leb, lt-ltb, eq-eqb, leb-true, leb-false, ltb-true, eqb-true}
-use Rattle.laws.proofs.Bools.{both, either}
+use Rattle.laws.proofs.Bools.{both, either, or-true}
 use Rattle.calendar.specs.declared.Date.{Date}
 use Rattle.calendar.specs.Calendar.{leapYear, yearLength, daysBeforeYear, dayOfYear, dayNumber, weekdayOf, inYear, monthDay}
 use Rattle.calendar.proofs.DateLaws.{Real, number-is, same-number}
@@ -179,7 +179,3 @@ announced-exactly rule t m good p = (
   where
     g : GoodRule rule
     g = good-rule rule good
-
-    or-true : (b : Bool) → (b || true) ≡ true
-    or-true true = refl
-    or-true false = refl

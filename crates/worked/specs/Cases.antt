@@ -75,7 +75,7 @@ cases =
     ∷ gives (toPulses case9 (sevens 100)) (wrote 100 frame9)
     ∷ gives (pulses frame9) (told case9)
     ∷ gives (stamp case9) (refused 12 0)
-    -- 10. case 6's date and time: offset +56 accepted, +57 code 8; -48 accepted, -49 code 8. (A frame can say half an hour more alone.)
+    -- 10. case 6's date and time: offset +56 accepted, +57 code 8; -48 accepted, -49 code 8. (No frame can say +57 or -49; the refused ones say half an hour too much.)
     ∷ gives (toPulses (case6 (plus 56)) (sevens 100)) (wrote 100 (frame10 (64 ∷ 66 ∷ 67 ∷ 68 ∷ 75 ∷ [])))
     ∷ gives (pulses (frame10 (64 ∷ 66 ∷ 67 ∷ 68 ∷ 75 ∷ []))) (told (case6 (plus 56)))
     ∷ gives (toPulses (case6 (plus 57)) (sevens 100)) (wroteNone 8 0 (sevens 100))

@@ -130,3 +130,10 @@ noFlags = replicate 7 32
 -- a lent buffer of n bytes, each a 7
 abbrev pub sevens : ℕ → List ℕ
 sevens n = replicate n 7
+
+-- ---- listings
+
+-- `at kind answer value place` and a line feed
+abbrev pub heading : List ℕ
+heading =
+    97 ∷ 116 ∷ 32 ∷ 107 ∷ 105 ∷ 110 ∷ 100 ∷ 32 ∷ 97 ∷ 110 ∷ 115 ∷ 119 ∷ 101 ∷ 114 ∷ 32 ∷ 118 ∷ 97 ∷ 108 ∷ 117 ∷ 101 ∷ 32 ∷ 112 ∷ 108 ∷ 97 ∷ 99 ∷ 101 ∷ 10 ∷ []

@@ -5,7 +5,7 @@ use mathlib.Core.List.{List, [], _∷_, _++_}
 use Prim.Native.Nat.{ℕ}
 use Rattle.reading.specs.declared.Reading.{Reading}
 use Rattle.worked.specs.Questions.{Case, gives, stamp, stampOfString, clockString, marks, toMarks, bridged, listed, stamped, toldMeinberg, toldMinute, refused, wrote, wroteNone, text}
-use Rattle.worked.specs.Given.{flagged, at, plus, minus, frameWith, minuteWith, meinbergAt, sevens}
+use Rattle.worked.specs.Given.{flagged, at, plus, minus, frameWith, minuteWith, meinbergAt, sevens, heading}
 
 -- ---- second 60
 
@@ -71,12 +71,14 @@ marchBook = (1 ∷ lastOfFebruary) ++ (1 ∷ dayTooEarly) ++ (5 ∷ marchMarks 6
 -- `at kind answer value place`, `0 1 ok 762575225 0`, `33 1 no 9 24`, `66 5 ok 762575226 0` and `128 4 no 9 59`, a line feed behind each
 abbrev marchLines : List ℕ
 marchLines =
-    97 ∷ 116 ∷ 32 ∷ 107 ∷ 105 ∷ 110 ∷ 100 ∷ 32 ∷ 97 ∷ 110 ∷ 115 ∷ 119 ∷ 101 ∷ 114 ∷ 32 ∷ 118 ∷ 97 ∷ 108 ∷ 117 ∷ 101 ∷ 32 ∷ 112 ∷ 108 ∷ 97 ∷ 99 ∷ 101 ∷ 10
-    ∷ 48 ∷ 32 ∷ 49 ∷ 32 ∷ 111 ∷ 107 ∷ 32 ∷ 55 ∷ 54 ∷ 50 ∷ 53 ∷ 55 ∷ 53 ∷ 50 ∷ 50 ∷ 53 ∷ 32 ∷ 48 ∷ 10
+    heading
+    ++ (
+    48 ∷ 32 ∷ 49 ∷ 32 ∷ 111 ∷ 107 ∷ 32 ∷ 55 ∷ 54 ∷ 50 ∷ 53 ∷ 55 ∷ 53 ∷ 50 ∷ 50 ∷ 53 ∷ 32 ∷ 48 ∷ 10
     ∷ 51 ∷ 51 ∷ 32 ∷ 49 ∷ 32 ∷ 110 ∷ 111 ∷ 32 ∷ 57 ∷ 32 ∷ 50 ∷ 52 ∷ 10
     ∷ 54 ∷ 54 ∷ 32 ∷ 53 ∷ 32 ∷ 111 ∷ 107 ∷ 32 ∷ 55 ∷ 54 ∷ 50 ∷ 53 ∷ 55 ∷ 53 ∷ 50 ∷ 50 ∷ 54 ∷ 32 ∷ 48 ∷ 10
     ∷ 49 ∷ 50 ∷ 56 ∷ 32 ∷ 52 ∷ 32 ∷ 110 ∷ 111 ∷ 32 ∷ 57 ∷ 32 ∷ 53 ∷ 57 ∷ 10
     ∷ []
+    )
 
 -- ---- the list
 

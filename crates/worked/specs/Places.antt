@@ -39,6 +39,7 @@ use Rattle.worked.specs.Given.{
   hourAhead,
   noFlags,
   sevens,
+  heading,
 }
 
 -- ---- strings of winter time
@@ -54,10 +55,12 @@ long d mo w h mi s = erlangenAt d mo 24 w h mi s hourAhead noFlags
 -- `at kind answer value place`, `0 1 no 16 6` and `33 2 no 15 14`, a line feed behind each
 abbrev lines : List ℕ
 lines =
-    97 ∷ 116 ∷ 32 ∷ 107 ∷ 105 ∷ 110 ∷ 100 ∷ 32 ∷ 97 ∷ 110 ∷ 115 ∷ 119 ∷ 101 ∷ 114 ∷ 32 ∷ 118 ∷ 97 ∷ 108 ∷ 117 ∷ 101 ∷ 32 ∷ 112 ∷ 108 ∷ 97 ∷ 99 ∷ 101 ∷ 10
-    ∷ 48 ∷ 32 ∷ 49 ∷ 32 ∷ 110 ∷ 111 ∷ 32 ∷ 49 ∷ 54 ∷ 32 ∷ 54 ∷ 10
+    heading
+    ++ (
+    48 ∷ 32 ∷ 49 ∷ 32 ∷ 110 ∷ 111 ∷ 32 ∷ 49 ∷ 54 ∷ 32 ∷ 54 ∷ 10
     ∷ 51 ∷ 51 ∷ 32 ∷ 50 ∷ 32 ∷ 110 ∷ 111 ∷ 32 ∷ 49 ∷ 53 ∷ 32 ∷ 49 ∷ 52 ∷ 10
     ∷ []
+    )
 
 -- ---- the list
 

@@ -1,9 +1,9 @@
 -- L9, "Quarter-hour zones": offsets of every quarter in Uni Erlangen strings, and what an odd quarter meets at each writer, at stamping,
--- at the bridge and in a listing. A frame counts half hours, so that it carries every other quarter alone.
+-- at the bridge and in a listing. A frame counts half hours, so that it carries only every second quarter.
 use mathlib.Core.Bool.{false}
 use mathlib.Core.List.{List, [], _∷_, _++_}
 use Prim.Native.Nat.{ℕ}
-use lib.ListN.{take, replicate}
+use lib.ListN.{take, drop, replicate}
 use Rattle.reading.specs.declared.Reading.{Reading}
 use Rattle.bridge.specs.declared.Coasting.the-variants.{Dropped}
 use Rattle.worked.specs.Questions.{
@@ -28,10 +28,10 @@ use Rattle.worked.specs.Questions.{
   wroteNone,
   text,
 }
-use Rattle.worked.specs.Given.{at, flagged, plus, minus, case6, two, position, erlangenAt, noFlags, sevens}
+use Rattle.worked.specs.Given.{at, flagged, plus, minus, case6, two, position, erlangenAt, noFlags, sevens, heading}
 use Rattle.worked.specs.Cases.{frame10, string10}
 
--- ---- offsets as a string has them
+-- ---- offsets and letters as a string has them
 
 -- `+hh:mm` and `-hh:mm`
 abbrev ahead : ℕ → ℕ → List ℕ
@@ -40,12 +40,16 @@ ahead h m = (43 ∷ []) ++ two h ++ (58 ∷ []) ++ two m
 abbrev behind : ℕ → ℕ → List ℕ
 behind h m = (45 ∷ []) ++ two h ++ (58 ∷ []) ++ two m
 
--- a string of case 6's time says the offset that follows it
+-- a string of case 6's time with the offset given says the reading that follows
 abbrev says : List ℕ → Reading → Case
 says offset r = gives (clockString (string10 offset)) (toldErlangen r false)
 
 abbrev no-offset : List ℕ → Case
 no-offset offset = gives (clockString (string10 offset)) (refused 8 24)
+
+-- of the letters `L` alone
+abbrev leapMark : List ℕ
+leapMark = replicate 6 32 ++ (76 ∷ [])
 
 -- ---- a plant at UTC+5:45
 
@@ -56,26 +60,37 @@ plant = case6 (plus 23)
 abbrev plantString : List ℕ
 plantString = string10 (ahead 5 45)
 
--- the same with Tuesday for the Thursday, and with second 60, which does not end a UTC month
+-- the same with another first byte, with hour 24, month 13, Tuesday for the Thursday, and a second 60 that does not end a UTC month
+abbrev wrongByte : List ℕ
+wrongByte = 9 ∷ drop 1 plantString
+
+abbrev wrongHour : List ℕ
+wrongHour = erlangenAt 29 2 24 4 24 34 56 (ahead 5 45) noFlags
+
+abbrev wrongMonth : List ℕ
+wrongMonth = erlangenAt 29 13 24 4 12 34 56 (ahead 5 45) noFlags
+
 abbrev wrongWeekday : List ℕ
 wrongWeekday = erlangenAt 29 2 24 2 12 34 56 (ahead 5 45) noFlags
 
 abbrev wrongSixty : List ℕ
-wrongSixty = erlangenAt 29 2 24 4 12 34 60 (ahead 5 45) (replicate 6 32 ++ (76 ∷ []))
+wrongSixty = erlangenAt 29 2 24 4 12 34 60 (ahead 5 45) leapMark
 
 -- the leap second of 2016 there, Sunday 1 January 2017, 05:44:60, and a minute later, where none is
 abbrev leapThere : Reading
 leapThere = at 2017 1 1 5 44 60 (plus 23)
 
 abbrev leapString : ℕ → List ℕ
-leapString minute = erlangenAt 1 1 17 7 5 minute 60 (ahead 5 45) (replicate 6 32 ++ (76 ∷ []))
+leapString minute = erlangenAt 1 1 17 7 5 minute 60 (ahead 5 45) leapMark
 
 -- `at kind answer value place` and `0 2 ok 762513421 0`, a line feed behind each
 abbrev plantLines : List ℕ
 plantLines =
-    97 ∷ 116 ∷ 32 ∷ 107 ∷ 105 ∷ 110 ∷ 100 ∷ 32 ∷ 97 ∷ 110 ∷ 115 ∷ 119 ∷ 101 ∷ 114 ∷ 32 ∷ 118 ∷ 97 ∷ 108 ∷ 117 ∷ 101 ∷ 32 ∷ 112 ∷ 108 ∷ 97 ∷ 99 ∷ 101 ∷ 10
-    ∷ 48 ∷ 32 ∷ 50 ∷ 32 ∷ 111 ∷ 107 ∷ 32 ∷ 55 ∷ 54 ∷ 50 ∷ 53 ∷ 49 ∷ 51 ∷ 52 ∷ 50 ∷ 49 ∷ 32 ∷ 48 ∷ 10
+    heading
+    ++ (
+    48 ∷ 32 ∷ 50 ∷ 32 ∷ 111 ∷ 107 ∷ 32 ∷ 55 ∷ 54 ∷ 50 ∷ 53 ∷ 49 ∷ 51 ∷ 52 ∷ 50 ∷ 49 ∷ 32 ∷ 48 ∷ 10
     ∷ []
+    )
 
 -- ---- writers
 
@@ -120,7 +135,7 @@ quarters =
     ∷ gives (toErlangen (case6 (plus 56)) false position (sevens 68)) (wrote 68 (string10 (ahead 14 0)))
     ∷ gives (toErlangen (case6 (minus 48)) false position (sevens 68)) (wrote 68 (string10 (behind 12 0)))
     ∷ gives (toErlangen (case6 (plus 57)) false position (sevens 68)) (wroteNone 8 0 (sevens 68))
-    -- UTC is a quarter of an hour off for each: 06:49:56, and 07:04:56 of the half hour before it; "stamped, listed"
+    -- UTC of the plant's time is 06:49:56, and of the same local time at `+05:30` 07:04:56; stamped and listed
     ∷ gives (stamp plant) (stamped 762513421)
     ∷ gives (stampOfString plantString) (stamped 762513421)
     ∷ gives (stamp (case6 (plus 22))) (stamped 762514321)
@@ -154,7 +169,7 @@ quarters =
     ∷ noFrame (at 2024 13 29 12 34 56 (plus 23)) 16
     ∷ noFrame (flagged 2024 2 29 12 34 56 (plus 23) false false false 16) 17
     ∷ noFrame (at 2024 2 29 12 34 60 (plus 23)) 9
-    -- another zone than theirs to Meinberg's writer and DCF77's, as is what their zones were in half hours
+    -- to Meinberg's writer and DCF77's an odd quarter is another zone than theirs, and so is +2, their winter in half hours
     ∷ noMeinberg plant 11
     ∷ noMeinberg (case6 (plus 2)) 11
     ∷ noMinute (at 2024 2 29 12 34 0 (plus 23)) 11
@@ -163,9 +178,12 @@ quarters =
     ∷ gives (bridged plantString (sevens 101)) (wroteNone 11 0 (sevens 101))
     ∷ gives (bridgedWith Dropped plantString (sevens 101)) (wroteNone 11 0 (sevens 101))
     ∷ gives (bridged (leapString 44) (sevens 100)) (wroteNone 11 0 (sevens 100))
-    -- after the room, and after the string's own refusal, code and place
+    -- after the room, and after each refusal of the string's own, code and place
     ∷ gives (bridged plantString (sevens 99)) (wroteNone 1 0 (sevens 99))
     ∷ gives (bridged (take 67 plantString) (sevens 100)) (wroteNone 1 0 (sevens 100))
+    ∷ gives (bridged wrongByte (sevens 100)) (wroteNone 2 0 (sevens 100))
+    ∷ gives (bridged wrongHour (sevens 100)) (wroteNone 15 14 (sevens 100))
+    ∷ gives (bridged wrongMonth (sevens 100)) (wroteNone 16 4 (sevens 100))
     ∷ gives (bridged wrongWeekday (sevens 100)) (wroteNone 6 11 (sevens 100))
     ∷ gives (bridged wrongSixty (sevens 100)) (wroteNone 9 20 (sevens 100))
     ∷ gives (bridged (string10 (ahead 14 15)) (sevens 100)) (wroteNone 8 24 (sevens 100))

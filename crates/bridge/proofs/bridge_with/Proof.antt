@@ -21,8 +21,7 @@ use Rattle.clock_string.proofs.ReadLaws.{Tells, refused-is}
 use Rattle.irig.specs.Offset.{oddQuarter}
 use Rattle.irig.specs.Faults.{frameLength}
 use Rattle.irig.specs.Writing.{frameOf, writeFault}
-use Rattle.irig.proofs.WriteLaws.{writable, written-frame}
-use Rattle.irig.proofs.QuarterLaws.{odd-fault}
+use Rattle.irig.proofs.WriteLaws.{writable, odd-fault, written-frame}
 use Rattle.bridge.specs.declared.Coasting.{Coasting}
 use Rattle.bridge.specs.Bridge.{carriedBy, bridgeAnswer, bridgeFilled}
 use Rattle.bridge.proofs.CarriedLaws.{quarter-carried}

@@ -13,6 +13,8 @@ use Rattle.reading.specs.Checks.{checkedOf}
 use Rattle.irig.specs.Offset.{oddQuarter}
 use Rattle.irig.specs.Faults.{frameLength}
 use Rattle.irig.specs.Writing.{carriedOf, writeFault}
+use Rattle.irig.proofs.CarriedLaws.{parts-carried}
+use Rattle.irig.proofs.WriteLaws.{writable, odd-fault}
 use Rattle.irig.proofs.groups.write_fault.Statement.{statement}
 use Rattle.irig.proofs.groups.write_fault.Tie as tie
 
@@ -26,12 +28,10 @@ module _ (r : Reading) (room : ℕ) where
   faulty x h e = rw (le-ltb room frameLength h, e)
 
   odd : frameLength ≤ room → checkedOf base r ≡ Good → oddQuarter (r .offset .0) ≡ true → Bad NotCarried ≡ writeFault base r room
-  unfolding writeFault carriedOf
-  odd h e f = rw (le-ltb room frameLength h, e, f)
+  odd h e f = sym (odd-fault base r room h e f)
 
   even : frameLength ≤ room → checkedOf base r ≡ Good → oddQuarter (r .offset .0) ≡ false → Good ≡ writeFault base r room
-  unfolding writeFault carriedOf
-  even h e f = rw (le-ltb room frameLength h, e, f)
+  even h e f = sym (writable base r room h (parts-carried base r e f))
 
 returns : tie.Need-returns
 returns c = short (c .before .args .r) (c .before .args .room) (c .if1 .taken)
