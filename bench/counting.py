@@ -35,12 +35,12 @@ def lines_of(path):
     return count
 
 
-def counted_by_emulator(program, given):
+def counted_by_emulator(program, given, arguments):
     """One block of translated code for each instruction, and a line for each block that is run."""
     with tempfile.TemporaryDirectory() as folder:
         pipe = os.path.join(folder, "trace")
         os.mkfifo(pipe)
-        words = [str(kit.EMULATOR), "-one-insn-per-tb", "-d", "exec,nochain", "-D", pipe, *kit.LOADER, str(program)]
+        words = [str(kit.EMULATOR), "-one-insn-per-tb", "-d", "exec,nochain", "-D", pipe, *kit.LOADER, str(program), *arguments]
         run = subprocess.Popen(words, stdin=given, stdout=subprocess.PIPE)
         answer = []
         listen = threading.Thread(target=lambda: answer.append(run.communicate()[0]))
@@ -52,14 +52,14 @@ def counted_by_emulator(program, given):
     return count, answer[0]
 
 
-def counted_by_valgrind(program, given):
-    words = ["valgrind", "--tool=callgrind", "--callgrind-out-file=/dev/null", *kit.LOADER, str(program)]
+def counted_by_valgrind(program, given, arguments):
+    words = ["valgrind", "--tool=callgrind", "--callgrind-out-file=/dev/null", *kit.LOADER, str(program), *arguments]
     run = subprocess.run(words, stdin=given, stdout=subprocess.PIPE, stderr=subprocess.PIPE, check=True)
     return int(re.search(rb"Collected : (\d+)", run.stderr).group(1)), run.stdout
 
 
-def counted_by_perf(program, given):
-    words = ["perf", "stat", "-x,", "-e", "instructions:u", *kit.LOADER, str(program)]
+def counted_by_perf(program, given, arguments):
+    words = ["perf", "stat", "-x,", "-e", "instructions:u", *kit.LOADER, str(program), *arguments]
     run = subprocess.run(words, stdin=given, stdout=subprocess.PIPE, stderr=subprocess.PIPE, check=True)
     found = re.search(rb"^(\d+),[^\n]*instructions", run.stderr, re.M)
     if not found:
@@ -67,13 +67,13 @@ def counted_by_perf(program, given):
     return int(found.group(1)), run.stdout
 
 
-def counted(program, given):
+def counted(program, given, *arguments):
     """How many instructions a program executes on an input, from its start to its end, and what it writes. The input is a
     file, since a pipe gives it in parts that differ from run to run."""
     with tempfile.TemporaryFile() as file:
         file.write(given)
         file.seek(0)
         if kit.is_emulated():
-            return counted_by_emulator(program, file)
+            return counted_by_emulator(program, file, arguments)
         count = counted_by_valgrind if counter().endswith("valgrind") else counted_by_perf
-        return count(program, file)
+        return count(program, file, arguments)

@@ -25,9 +25,9 @@ def is_emulated():
     return EMULATOR.exists()
 
 
-def output_of(program, given):
+def output_of(program, given, *arguments):
     """What a program of either side writes."""
-    words = ([str(EMULATOR)] if is_emulated() else []) + LOADER + [str(program)]
+    words = ([str(EMULATOR)] if is_emulated() else []) + LOADER + [str(program), *arguments]
     return subprocess.run(words, input=given, stdout=subprocess.PIPE, check=True).stdout
 
 

@@ -16,7 +16,9 @@ from reading import Reading  # noqa: E402
 
 POSITION = case_parts.POSITION
 ROOM = 128
-START = datetime.datetime(2000, 1, 1)
+BASE = 2000  # of the years, but where another is named
+EARLY_BASE = 1990
+NO_BASE = 1991  # one that is refused
 STRINGS = ("Meinberg", "Uni Erlangen")
 FORMATS = (*STRINGS, "IEEE 1344", "DCF77")
 # Offsets in quarter hours, from the largest down: all of them, those that a frame carries, and those that it does not.
@@ -46,9 +48,14 @@ def quality_of(form, number):
     return 15 if form != "DCF77" and number % 5 == 0 else 0
 
 
-def reading_of(form, number):
-    """Dates from all the hundred years, every zone; each that the format carries."""
-    at = START + datetime.timedelta(days=number * 7919 % 36525, minutes=number * 617 % 1440, seconds=number * 37 % 60)
+def start_of(base):
+    return datetime.datetime(base, 1, 1)
+
+
+def reading_of(form, number, base=BASE):
+    """Dates from all the base's hundred years, every zone; each that the format carries."""
+    passed = datetime.timedelta(days=number * 7919 % 36525, minutes=number * 617 % 1440, seconds=number * 37 % 60)
+    at = start_of(base) + passed
     offset, summer = zone_of(form, number)
     second = 0 if form == "DCF77" else at.second
     return Reading(at.year, at.month, at.day, at.hour, at.minute, second, offset, summer, number % 7 == 0, number % 7 == 3,
@@ -60,35 +67,35 @@ def beside_of(form, number):
     return number * 1237 % 32768 if form == "DCF77" else int(number % 3 == 0)
 
 
-def long_minute_of(number):
+def long_minute_of(number, base=BASE):
     """A reading whose minute has 61 marks: 00:00 UTC of the first of any month with a leap second announced."""
     offset, summer = zone_of("DCF77", number)
-    first = datetime.datetime(2001 + number % 98, number % 12 + 1, 1)
+    first = datetime.datetime(base + 1 + number % 98, number % 12 + 1, 1)
     return case_parts.local(first, offset, summer=summer, leap=True)
 
 
-def text_of(form, reading, number):
+def text_of(form, reading, number, base=BASE):
     """What the second program's writer writes."""
     out, beside = bytearray(ROOM), beside_of(form, number)
     length = {
-        "Meinberg": lambda: meinberg.write(reading, beside != 0, out),
-        "Uni Erlangen": lambda: erlangen.write(reading, beside != 0, POSITION, out),
-        "IEEE 1344": lambda: ieee1344.write(reading, out),
-        "DCF77": lambda: dcf77.write(reading, beside, out),
+        "Meinberg": lambda: meinberg.write(base, reading, beside != 0, out),
+        "Uni Erlangen": lambda: erlangen.write(base, reading, beside != 0, POSITION, out),
+        "IEEE 1344": lambda: ieee1344.write(base, reading, out),
+        "DCF77": lambda: dcf77.write(base, reading, beside, out),
     }[form]()
     return bytes(out[:length])
 
 
-def accepted(form, number):
-    return text_of(form, reading_of(form, number), number)
+def accepted(form, number, base=BASE):
+    return text_of(form, reading_of(form, number, base), number, base)
 
 
 def too_short(form, number):
     return accepted(form, number)[:-1] if form != "DCF77" else accepted(form, number)[:-2]
 
 
-def first_byte_wrong(form, number):
-    return b"\x07" + accepted(form, number)[1:]
+def first_byte_wrong(form, number, base=BASE):
+    return b"\x07" + accepted(form, number, base)[1:]
 
 
 def refused_late(form, number):
@@ -158,7 +165,7 @@ def rule_of(number):
 def sent_of(number, rule):
     """Minutes from all the hundred years: of seven one in the hour before a change, and one in a month's last hour, the last
     minute as often as not; with the month's last day."""
-    at = START + datetime.timedelta(days=number * 7919 % LAST_DAY, minutes=number * 617 % 1440)
+    at = start_of(BASE) + datetime.timedelta(days=number * 7919 % LAST_DAY, minutes=number * 617 % 1440)
     last = datetime.datetime(at.year + at.month // 12, at.month % 12 + 1, 1) - datetime.timedelta(days=1)
     if number % 7 == 3:
         day = telegram.day_of_change(rule[number % 2], at.year)
@@ -195,13 +202,13 @@ def minutes(count):
     return b"\x02" + b"".join(accepted("DCF77", number) for number in range(1, count + 1))
 
 
-def book(count):
-    """Records of every kind in turn, one in ten of them refused."""
+def book(count, base=BASE):
+    """Records of every kind in turn, of the base's years, one in ten of them refused."""
     parts = []
     for number in range(count):
         place = number % 5
         form = FORMATS[min(place, 3)]
-        body = accepted(form, number) if place < 4 else text_of(form, long_minute_of(number), number)
-        body = first_byte_wrong(form, number) if number % 50 in (3, 12, 21, 30, 49) and place < 4 else body
+        body = accepted(form, number, base) if place < 4 else text_of(form, long_minute_of(number, base), number, base)
+        body = first_byte_wrong(form, number, base) if number % 50 in (3, 12, 21, 30, 49) and place < 4 else body
         parts.append(bytes((place + 1,)) + body)
     return b"".join(parts)

@@ -1,5 +1,6 @@
 """The rows of the table: what is counted, on which records, and what of it is the driver's own work."""
 import collections
+import struct
 
 import counting
 import records
@@ -15,8 +16,8 @@ FRAME_PULSES, MINUTE_PULSES = 11, 12
 # Operations that are the driver's work alone: its loop over the records, and for writers the readings taken apart before.
 LOOP, DECODING = 0, 9
 
-# A row: its name, the operation, the record of each number, the driver's operation that is taken off.
-Row = collections.namedtuple("Row", "name op record driver")
+# A row: its name, the operation, the record of each number, the driver's operation that is taken off, the base of the years.
+Row = collections.namedtuple("Row", "name op record driver base", defaults=(records.BASE,))
 # What was counted: instructions a record of ours and of the C baseline, and in words the goal of its own that it misses.
 Counted = collections.namedtuple("Counted", "name ours plain missed", defaults=("",))
 
@@ -27,8 +28,8 @@ def of_format(make, form):
 
 def record_rows():
     """Every reader, that of strings with either string, every writer, and the telegram: accepted, refused early, refused by its
-    last check; and the bridge with either string, as it is and with the coasting mark dropped, and with one that it refuses by
-    its last check."""
+    last check; a string under a base that is none; and the bridge with either string, as it is and with the coasting mark
+    dropped, and with one that it refuses by its last check."""
     rows = []
     reads = (("accepted", records.accepted), ("refused: length", records.too_short),
              ("refused: first byte", records.first_byte_wrong), ("refused: last check", records.refused_late))
@@ -37,6 +38,8 @@ def record_rows():
     for form, op in READ.items():
         called = f"string, {form}" if form in records.STRINGS else f"read {form}"
         rows += [Row(f"{called}, {name}", op, of_format(make, form), LOOP) for name, make in reads]
+    good = of_format(records.accepted, "Meinberg")
+    rows.append(Row("string, Meinberg, refused: base", READ["Meinberg"], good, LOOP, records.NO_BASE))
     for place, form in enumerate(records.FORMATS):
         rows += [Row(f"write {form}, {name}", WRITE + place, of_format(make, form), DECODING) for name, make in writes]
     telegrams = (("accepted", records.telegram_asked), ("refused: no room", records.telegram_without_room),
@@ -50,29 +53,34 @@ def record_rows():
     return rows
 
 
-def given_to(op, made):
-    return bytes((op, len(made[0]))) + b"".join(made)
+def header(op, size, base=records.BASE):
+    """What stands before the records: the operation, the length of each, the base of their years."""
+    return struct.pack("<BBH", op, size, base)
 
 
-def difference(program, short, long):
+def given_to(op, made, base=records.BASE):
+    return header(op, len(made[0]), base) + b"".join(made)
+
+
+def difference(program, short, long, arguments):
     """The instructions that the longer input costs more, and what the program writes of it."""
-    before, _ = counting.counted(program, short)
-    after, wrote = counting.counted(program, long)
+    before, _ = counting.counted(program, short, *arguments)
+    after, wrote = counting.counted(program, long, *arguments)
     return after - before, wrote
 
 
-def both(programs, short, long):
+def both(programs, short, long, *arguments):
     """The same for ours and the C baseline, which have to write the same."""
-    (ours, wrote), (plain, wrote_too) = (difference(program, short, long) for program in programs)
+    (ours, wrote), (plain, wrote_too) = (difference(program, short, long, arguments) for program in programs)
     if wrote != wrote_too:
         raise SystemExit(f"bench: {programs[0]} and {programs[1]} differ on an input that begins {long[:40]}")
     return ours, plain
 
 
-def per_record(programs, op, record, length):
+def per_record(programs, op, record, length, base=records.BASE):
     """Instructions a record, of ours and of the C baseline, the driver's work included."""
     made = [record(number) for number in range(length)]
-    ours, plain = both(programs, given_to(op, made[:SHORT]), given_to(op, made))
+    ours, plain = both(programs, given_to(op, made[:SHORT], base), given_to(op, made, base))
     return ours / (length - SHORT), plain / (length - SHORT)
 
 
@@ -90,7 +98,8 @@ def counted_rows(programs, length):
     yield Counted("driver of writers", *own[DECODING])
     writer = None
     for row in record_rows():
-        ours, plain = (both - driver for both, driver in zip(per_record(programs, row.op, row.record, length), own[row.driver]))
+        counts = per_record(programs, row.op, row.record, length, row.base)
+        ours, plain = (count - driver for count, driver in zip(counts, own[row.driver]))
         if row.name == "write DCF77, accepted":
             writer = ours
         missed = row.name == "telegram, accepted" and ours > TELEGRAM_GOAL * writer
@@ -99,7 +108,7 @@ def counted_rows(programs, length):
 
 def pulses_between(programs, op, stream, first, last):
     """Instructions a pulse for the pulses from number `first` on, up to `last`."""
-    ours, plain = both(programs, bytes((op, 1)) + stream[: first - 1], bytes((op, 1)) + stream[:last])
+    ours, plain = both(programs, header(op, 1) + stream[: first - 1], header(op, 1) + stream[:last])
     return ours / (last + 1 - first), plain / (last + 1 - first)
 
 
@@ -123,6 +132,8 @@ def pulse_rows(programs):
 
 
 def listing_rows(programs, length):
-    """A record of the listing program, reading, stamping and printing together."""
-    ours, plain = both(programs, records.book(SHORT), records.book(length))
-    yield Counted("listed record", ours / (length - SHORT), plain / (length - SHORT))
+    """A record of the listing program, reading, stamping and printing together; by its own base, and by 1990, named."""
+    for name, base, arguments in (("listed record", records.BASE, ()),
+                                  ("listed record, base 1990", records.EARLY_BASE, ("1990",))):
+        ours, plain = both(programs, records.book(SHORT, base), records.book(length, base), *arguments)
+        yield Counted(name, ours / (length - SHORT), plain / (length - SHORT))

@@ -1,4 +1,4 @@
-"""The command: reads cases (op, length, payload) from standard input and prints a line for each,
+"""The command: reads cases (op, base, length, payload) from standard input and prints a line for each,
 to be compared with the lines the proved library gives for the same cases."""
 
 import struct
@@ -18,11 +18,13 @@ from book import listing_text
 from clock_string import ToldString
 from reading import Reading, Refusal, Told, stamp
 
+HEADER = struct.Struct("<BHH")  # of a case: op, base, length of the payload
 FILLING = 0xA5
 READING_BYTES = 12
 WRITER_BYTES = 15
 TELEGRAM_BYTES = 20
 BAD = "bad"
+CUT_OFF = (0, 0, b"")  # an op that is none
 # Number in a case -> what becomes of the coasting mark
 WAYS = {1: bridge.Coasting.WORSE, 2: bridge.Coasting.DROPPED}
 
@@ -54,14 +56,14 @@ def reading_of(payload: bytes) -> Reading:
                    bool(summer), bool(leap), bool(change), quality)
 
 
-def read_line(read: Callable, payload: bytes) -> str:
-    return " ".join(words_of(read(payload)))
+def read_line(read: Callable, base: int, payload: bytes) -> str:
+    return " ".join(words_of(read(base, payload)))
 
 
-def string_line(payload: bytes) -> str:
+def string_line(base: int, payload: bytes) -> str:
     """What is said of a clock string, and in every case its position part."""
-    return "%s part %s" % (read_line(clock_string.read, payload),
-                           hexadecimal(clock_string.position_part(payload)))
+    return "%s part %s" % (read_line(clock_string.read, base, payload),
+                           hexadecimal(clock_string.position_part(base, payload)))
 
 
 def written_line(answer: Union[int, Refusal], output: bytes) -> str:
@@ -70,13 +72,13 @@ def written_line(answer: Union[int, Refusal], output: bytes) -> str:
     return "wrote %d %s" % (answer, hexadecimal(output))
 
 
-def write_line(write: Callable, payload: bytes) -> str:
-    """Asks a writer, given as a function of reading, beside, rest of the payload and output."""
+def write_line(write: Callable, base: int, payload: bytes) -> str:
+    """Asks a writer, given as a function of base, reading, beside, rest of the payload and output."""
     if len(payload) < WRITER_BYTES:
         return BAD
     beside, room = struct.unpack_from("<HB", payload, READING_BYTES)
     output = bytearray([FILLING]) * room
-    answer = write(reading_of(payload), beside, payload[WRITER_BYTES:], output)
+    answer = write(base, reading_of(payload), beside, payload[WRITER_BYTES:], output)
     return written_line(answer, output)
 
 
@@ -88,35 +90,36 @@ def telegram_parts(payload: bytes) -> tuple:
     return rule, leap, telegram.Sent(*numbers[6:11]), numbers[15], numbers[16]
 
 
-def telegram_line(payload: bytes) -> str:
+def telegram_line(base: int, payload: bytes) -> str:
     if len(payload) < TELEGRAM_BYTES:
         return BAD
     *asked, room = telegram_parts(payload)
     output = bytearray([FILLING]) * room
-    return written_line(telegram.write(*asked, output), output)
+    return written_line(telegram.write(base, *asked, output), output)
 
 
-def stamp_line(payload: bytes) -> str:
+def stamp_line(base: int, payload: bytes) -> str:
     if len(payload) < READING_BYTES:
         return BAD
-    value = stamp(reading_of(payload))
+    value = stamp(base, reading_of(payload))
     if isinstance(value, Refusal):
         return "no %d %d" % (value.code, value.place)
     return "at %d" % value
 
 
-def bridge_line(payload: bytes) -> str:
+def bridge_line(base: int, payload: bytes) -> str:
     if not payload:
         return BAD
     output = bytearray([FILLING]) * payload[0]
-    return written_line(bridge.bridge(payload[1:], output), output)
+    return written_line(bridge.bridge(base, payload[1:], output), output)
 
 
-def bridge_with_line(payload: bytes) -> str:
+def bridge_with_line(base: int, payload: bytes) -> str:
     if len(payload) < 2 or payload[1] not in WAYS:
         return BAD
     output = bytearray([FILLING]) * payload[0]
-    return written_line(bridge.bridge_with(payload[2:], WAYS[payload[1]], output), output)
+    answer = bridge.bridge_with(base, payload[2:], WAYS[payload[1]], output)
+    return written_line(answer, output)
 
 
 def said_line(reader, payload: bytes) -> str:
@@ -129,7 +132,7 @@ def said_line(reader, payload: bytes) -> str:
     return " ".join(parts)
 
 
-def changes_line(read: Callable, payload: bytes) -> str:
+def changes_line(read: Callable, base: int, payload: bytes) -> str:
     """Every one-byte change of the payload; those refused by 2 at their place are only counted."""
     parts = ["changes"]
     others = 0
@@ -139,7 +142,7 @@ def changes_line(read: Callable, payload: bytes) -> str:
             if byte == original:
                 continue
             changed[place] = byte
-            answer = read(changed)
+            answer = read(base, changed)
             if answer == (2, place):
                 others += 1
             elif isinstance(answer, Refusal):
@@ -151,58 +154,60 @@ def changes_line(read: Callable, payload: bytes) -> str:
 
 
 WRITERS = {
-    5: lambda reading, beside, _, output: meinberg.write(reading, beside != 0, output),
-    6: lambda reading, beside, rest, output: erlangen.write(reading, beside != 0, rest, output),
-    7: lambda reading, _, __, output: ieee1344.write(reading, output),
-    8: lambda reading, beside, _, output: dcf77.write(reading, beside, output),
+    5: lambda base, reading, beside, _, output: meinberg.write(base, reading, beside != 0, output),
+    6: lambda base, reading, beside, rest, output: erlangen.write(base, reading, beside != 0, rest,
+                                                                  output),
+    7: lambda base, reading, _, __, output: ieee1344.write(base, reading, output),
+    8: lambda base, reading, beside, _, output: dcf77.write(base, reading, beside, output),
 }
 
 LINES = {
     1: string_line,
-    3: lambda payload: read_line(ieee1344.read, payload),
-    4: lambda payload: read_line(dcf77.read, payload),
-    5: lambda payload: write_line(WRITERS[5], payload),
-    6: lambda payload: write_line(WRITERS[6], payload),
-    7: lambda payload: write_line(WRITERS[7], payload),
-    8: lambda payload: write_line(WRITERS[8], payload),
+    3: lambda base, payload: read_line(ieee1344.read, base, payload),
+    4: lambda base, payload: read_line(dcf77.read, base, payload),
+    5: lambda base, payload: write_line(WRITERS[5], base, payload),
+    6: lambda base, payload: write_line(WRITERS[6], base, payload),
+    7: lambda base, payload: write_line(WRITERS[7], base, payload),
+    8: lambda base, payload: write_line(WRITERS[8], base, payload),
     9: stamp_line,
     10: bridge_line,
-    11: lambda payload: said_line(pulse_readers.FrameReader(), payload),
-    12: lambda payload: said_line(pulse_readers.MinuteReader(), payload),
-    13: lambda payload: listing_text(payload).replace("\n", "|"),
-    14: lambda payload: published.table_line(),
+    11: lambda base, payload: said_line(pulse_readers.FrameReader(base), payload),
+    12: lambda base, payload: said_line(pulse_readers.MinuteReader(base), payload),
+    13: lambda base, payload: listing_text(base, payload).replace("\n", "|"),
+    14: lambda base, payload: published.table_line(),
     15: telegram_line,
     16: bridge_with_line,
-    20: lambda payload: changes_line(clock_string.read, payload),
-    22: lambda payload: changes_line(ieee1344.read, payload),
-    23: lambda payload: changes_line(dcf77.read, payload),
+    20: lambda base, payload: changes_line(clock_string.read, base, payload),
+    22: lambda base, payload: changes_line(ieee1344.read, base, payload),
+    23: lambda base, payload: changes_line(dcf77.read, base, payload),
 }
 
 
-def answer_line(op: int, payload: bytes) -> str:
+def answer_line(op: int, base: int, payload: bytes) -> str:
     line = LINES.get(op)
-    return BAD if line is None else line(payload)
+    return BAD if line is None else line(base, payload)
 
 
-def cases_of(stream: bytes) -> Iterator[Tuple[int, bytes]]:
-    """The cases of a stream; one that is cut off at the end comes as op 0, which is bad."""
+def cases_of(stream: bytes) -> Iterator[Tuple[int, int, bytes]]:
+    """The cases of a stream; one that is cut off at the end is bad."""
     at = 0
     while at < len(stream):
-        if at + 3 > len(stream):
-            yield 0, b""
+        start = at + HEADER.size
+        if start > len(stream):
+            yield CUT_OFF
             return
-        op, length = struct.unpack_from("<BH", stream, at)
-        if at + 3 + length > len(stream):
-            yield 0, b""
+        op, base, length = HEADER.unpack_from(stream, at)
+        at = start + length
+        if at > len(stream):
+            yield CUT_OFF
             return
-        yield op, stream[at + 3:at + 3 + length]
-        at += 3 + length
+        yield op, base, stream[start:at]
 
 
 def main() -> None:
     write = sys.stdout.write
-    for op, payload in cases_of(sys.stdin.buffer.read()):
-        write(answer_line(op, payload) + "\n")
+    for case in cases_of(sys.stdin.buffer.read()):
+        write(answer_line(*case) + "\n")
 
 
 if __name__ == "__main__":

@@ -29,17 +29,17 @@ def bridged(told: ToldString, way: Coasting) -> Reading:
         quality=FAILED if told.coasting and way is Coasting.WORSE else reading.quality)
 
 
-def bridge_with(string: bytes, way: Coasting, output: bytearray) -> Union[int, Refusal]:
-    """Output length first, then the string's own refusal, then the frame writer's, which can only be
-    that it does not carry the offset; all whatever the way."""
+def bridge_with(base: int, string: bytes, way: Coasting, output: bytearray) -> Union[int, Refusal]:
+    """Output length first, then the string's own refusal, in which the base has its place, then the
+    frame writer's, which can only be that it does not carry the offset; all whatever the way."""
     if len(output) < ieee1344.LENGTH:
         return Refusal(1)
-    answer = clock_string.read(string)
+    answer = clock_string.read(base, string)
     if isinstance(answer, Refusal):
         return answer
-    return ieee1344.write(bridged(answer, way), output)
+    return ieee1344.write(base, bridged(answer, way), output)
 
 
-def bridge(string: bytes, output: bytearray) -> Union[int, Refusal]:
+def bridge(base: int, string: bytes, output: bytearray) -> Union[int, Refusal]:
     """The bridge of one who names no way: a coasting clock looks worse."""
-    return bridge_with(string, Coasting.WORSE, output)
+    return bridge_with(base, string, Coasting.WORSE, output)

@@ -104,20 +104,25 @@ def minutes() -> Iterator[bytes]:
             yield case(12, minutes_from(first - 4 * MINUTE, 7, NEVER, summer_until, first))
 
 
+def book_around(first: datetime) -> bytes:
+    """The seconds around a month end and a second 60 a day too early, as every kind tells them; and the
+    minute that names the first, in both lengths and zones."""
+    book = bytearray()
+    for utc, second in (*around(first), (first - MINUTE - DAY, 60)):
+        for offset in MEINBERG_OFFSETS:
+            reading = local(utc, offset, second, summer=offset == SUMMER, leap=True)
+            book += b"\x01" + raw_meinberg(reading) + b"\x02" + raw_erlangen(reading)
+            book += b"\x03" + raw_frame(reading)
+    for summer in (True, False):
+        named = german_minute(first, summer, leap=True)
+        book += b"\x04" + raw_minute(named, 0, 60) + b"\x05" + raw_minute(named, 0, 61)
+    return bytes(book)
+
+
 def books() -> Iterator[bytes]:
-    """A book for each month end: the seconds around it and a second 60 a day too early, as every
-    kind tells them; and the minute that names the first, in both lengths and zones."""
+    """A book for each month end."""
     for first in firsts():
-        book = bytearray()
-        for utc, second in (*around(first), (first - MINUTE - DAY, 60)):
-            for offset in MEINBERG_OFFSETS:
-                reading = local(utc, offset, second, summer=offset == SUMMER, leap=True)
-                book += b"\x01" + raw_meinberg(reading) + b"\x02" + raw_erlangen(reading)
-                book += b"\x03" + raw_frame(reading)
-        for summer in (True, False):
-            named = german_minute(first, summer, leap=True)
-            book += b"\x04" + raw_minute(named, 0, 60) + b"\x05" + raw_minute(named, 0, 61)
-        yield case(13, book)
+        yield case(13, book_around(first))
 
 
 def make() -> Iterator[bytes]:

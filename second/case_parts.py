@@ -4,8 +4,9 @@ are good."""
 
 import struct
 from datetime import date, datetime
-from typing import Iterable, NamedTuple
+from typing import Iterable, Iterator, NamedTuple
 
+import answers
 import dcf77
 import ieee1344
 from layout import ones_are_odd
@@ -16,6 +17,9 @@ WINTER, SUMMER = 4, 8  # Central Europe's offsets, in quarter hours
 MEINBERG_OFFSETS = (0, WINTER, SUMMER)
 PLAIN = Reading(2024, 2, 29, 12, 34, 56, WINTER, False, False, False, 0)  # case 6 of document 01
 LARGEST_PAYLOAD = 4000
+# What is no base: near the two, parts of them, their bytes swapped, and the ends of the numbers.
+NO_BASES = (0, 1, 19, 90, 100, 1900, 1989, 1991, 1999, 2001, 2010, 2090, 2099, 2100, 50695, 51719,
+            53255, 65535)
 WORSE, DROPPED = 1, 2  # the ways of op 16
 REAL_LEAP_DAYS = ((2005, 12, 31), (2008, 12, 31), (2016, 12, 31), (2012, 6, 30), (2015, 6, 30))
 
@@ -46,9 +50,16 @@ class Asked(NamedTuple):
 ASKED = Asked(3, 25, 7, 10, 25, 7, 2024, 6, 15, 12, 0, 0, 0, 0, 0, 0, 61)
 
 
-def case(op: int, payload: bytes = b"") -> bytes:
+def case(op: int, payload: bytes = b"", base: int = 2000) -> bytes:
     assert len(payload) < LARGEST_PAYLOAD
-    return struct.pack("<BH", op, len(payload)) + bytes(payload)
+    return answers.HEADER.pack(op, base, len(payload)) + bytes(payload)
+
+
+def at_base(base: int, made: Iterable[bytes]) -> Iterator[bytes]:
+    """The same cases, asked at a base."""
+    for one in made:
+        op, _, length = answers.HEADER.unpack_from(one)
+        yield answers.HEADER.pack(op, base, length) + one[answers.HEADER.size:]
 
 
 def reading_bytes(reading: Reading) -> bytes:
@@ -56,8 +67,8 @@ def reading_bytes(reading: Reading) -> bytes:
 
 
 def write_case(op: int, reading: Reading, beside: int = 0, room: int = 255,
-               position: bytes = b"") -> bytes:
-    return case(op, reading_bytes(reading) + struct.pack("<HB", beside, room) + position)
+               position: bytes = b"", base: int = 2000) -> bytes:
+    return case(op, reading_bytes(reading) + struct.pack("<HB", beside, room) + position, base)
 
 
 def asked_bytes(asked: Asked) -> bytes:
@@ -75,12 +86,12 @@ def with_leap(day: date, asked: Asked) -> Asked:
     return asked._replace(leap_set=1, leap_year=day.year, leap_month=day.month, leap_day=day.day)
 
 
-def bridge_case(room: int, string: bytes) -> bytes:
-    return case(10, bytes((room,)) + string)
+def bridge_case(room: int, string: bytes, base: int = 2000) -> bytes:
+    return case(10, bytes((room,)) + string, base)
 
 
-def bridge_with_case(room: int, way: int, string: bytes) -> bytes:
-    return case(16, bytes((room, way)) + string)
+def bridge_with_case(room: int, way: int, string: bytes, base: int = 2000) -> bytes:
+    return case(16, bytes((room, way)) + string, base)
 
 
 def local(utc: datetime, offset: int, second: int = 0, **flags) -> Reading:

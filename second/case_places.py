@@ -40,7 +40,7 @@ WRITER_FAULTS: List[Fault] = TIME_FAULTS + DATE_FAULTS[:5] + [
     ("offset", 5), ("offset", 10), ("second", 60), ("second", 1), ("change", True), ("room", 31)]
 
 LONG = local(datetime(2017, 1, 1), WINTER, leap=True)  # names a minute that has 61 marks
-EARLY = Reading(2000, 1, 1, 0, 30, 0, WINTER, False, False, False, 0)  # case 9: its stamp is 12
+EARLY = Reading(2000, 1, 1, 0, 30, 0, WINTER, False, False, False, 0)  # case 9: UTC 1999
 DAYS = (0, 1, 28, 29, 30, 31, 32)
 MONTHS = (*range(14), 19)
 RECORDS, PIECES = 30, 8
@@ -149,7 +149,7 @@ def asked(op: int, base: Reading, faults: Dict, room: int = 128) -> bytes:
 
 def writers() -> Iterator[bytes]:
     """Every pair at each writer, a long minute also where the room is that of 60; stamping is asked
-    for a day that has no stamp."""
+    for a day before 2000."""
     announced = PLAIN._replace(leap=True)  # so that a change is an announcement too many
     for faults in combined(WRITER_FAULTS):
         yield asked(5, announced, faults)

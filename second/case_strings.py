@@ -7,7 +7,7 @@ from typing import Iterator
 
 import case_door
 from case_parts import (MEINBERG_OFFSETS, PLAIN, POSITION, REAL_LEAP_DAYS, SUMMER, WINTER, case,
-                        local, raw_erlangen, raw_meinberg, write_case)
+                        local, raw_erlangen, raw_meinberg, reading_bytes, write_case)
 
 # +05:30 +05:45 -03:30 -12:00 +14:00 .. +13:45 -11:45
 OTHER_OFFSETS = (22, 23, -14, -48, 56, 0, 1, -1, 2, WINTER, SUMMER, 55, -47)
@@ -56,7 +56,7 @@ def leap_seconds() -> Iterator[bytes]:
                         yield write_case(5, reading, 0, 40)
                     yield case(1, raw_erlangen(reading))
                     yield write_case(6, reading, 1, 70, POSITION)
-                    yield case(9, write_case(7, reading)[3:15])
+                    yield case(9, reading_bytes(reading))
 
 
 def letters() -> Iterator[bytes]:

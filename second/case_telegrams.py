@@ -131,9 +131,18 @@ def any_rule(dice: random.Random) -> Tuple[int, ...]:
     return (begin.month, begin.day, dice.randrange(1, 8), end.month, end.day, dice.randrange(1, 8))
 
 
-def any_minute(asked: Asked, dice: random.Random) -> datetime:
+def moved(base: int, year: int) -> int:
+    """A year drawn for base 2000. Under base 1990 a third of the years lie in the nineties and a third
+    ten years earlier, so that the hundred's ends are its ends; the others stay, as all do under any
+    other base."""
+    if base != 1990:
+        return year
+    return {0: year, 1: 1990 + year % 10, 2: year - 10}[year % 3]
+
+
+def any_minute(asked: Asked, dice: random.Random, base: int = 2000) -> datetime:
     """Half the time near a change by the asked rule or near a month end, else any."""
-    year = dice.randrange(2000, 2100)
+    year = moved(base, dice.randrange(2000, 2100))
     way = dice.randrange(4)
     if way == 0:
         near = midnight(dice.choice(found_days(asked, year)))
@@ -144,10 +153,10 @@ def any_minute(asked: Asked, dice: random.Random) -> datetime:
     return datetime(year, 1, 1) + dice.randrange(365 * 1440) * MINUTE
 
 
-def any_asked(dice: random.Random) -> Asked:
+def any_asked(dice: random.Random, base: int = 2000) -> Asked:
     """A good telegram, as a rule, with up to two values changed to odd ones."""
     asked = by_rule(any_rule(dice)) if dice.random() < 0.7 else ASKED
-    at = any_minute(asked, dice)
+    at = any_minute(asked, dice, base)
     asked = sent_at(at, asked, head=dice.choice((0, 1, 32767, dice.randrange(32768))),
                     room=dice.choice((60, 61, 61, 62, 255)))
     if dice.random() < 0.6:
@@ -159,12 +168,12 @@ def any_asked(dice: random.Random) -> Asked:
     return asked
 
 
-def any_telegram(dice: random.Random) -> bytes:
+def any_telegram(dice: random.Random, base: int) -> bytes:
     """A case for the random stream; a few payloads are cut off or too long."""
-    payload = asked_bytes(any_asked(dice))
+    payload = asked_bytes(any_asked(dice, base))
     if dice.random() < 0.01:
         payload = (payload + bytes(3))[:dice.randrange(24)]
-    return case(15, payload)
+    return case(15, payload, base)
 
 
 def random_ones() -> Iterator[bytes]:
@@ -173,14 +182,14 @@ def random_ones() -> Iterator[bytes]:
         yield asked_case(any_asked(dice))
 
 
-def telegrams_from(first: datetime, count: int, asked: Asked) -> bytes:
+def telegrams_from(first: datetime, count: int, asked: Asked, base: int = 2000) -> bytes:
     """A gap, then the telegrams sent in successive minutes, each with another head."""
     marks = bytearray(b"\x02")
     for number in range(count):
         sent = sent_at(first + number * MINUTE, asked, head=(first.year * 997 + number) % 32768)
         *parts, room = answers.telegram_parts(asked_bytes(sent))
         output = bytearray(room)
-        marks += output[:telegram.write(*parts, output)]
+        marks += output[:telegram.write(base, *parts, output)]
     return bytes(marks)
 
 

@@ -4,6 +4,7 @@ Use: cases.py NAME, or cases.py random SEED COUNT."""
 import sys
 from typing import Iterator
 
+import case_bases
 import case_coasting
 import case_frames
 import case_minutes
@@ -15,9 +16,10 @@ import case_random
 import case_streams
 import case_strings
 import case_telegrams
+from case_parts import case
 
 NAMED = {
-    "table": lambda: iter([bytes((14, 0, 0))]),
+    "table": lambda: iter([case(14)]),
     "strings": case_strings.make,
     "frames": case_frames.make,
     "minutes": case_minutes.make,
@@ -30,6 +32,7 @@ NAMED = {
     "books": case_others.books,
     "telegrams": case_telegrams.make,
     "quarters": case_quarters.make,
+    "bases": case_bases.make,
 }
 
 
@@ -44,8 +47,8 @@ def stream_of(arguments: list) -> Iterator[bytes]:
 
 def main() -> None:
     write = sys.stdout.buffer.write
-    for case in stream_of(sys.argv[1:]):
-        write(case)
+    for one in stream_of(sys.argv[1:]):
+        write(one)
 
 
 if __name__ == "__main__":

@@ -17,7 +17,8 @@ import erlangen
 import ieee1344
 import meinberg
 from bridge import bridge
-from check_coasting import check_bridged, check_coasting
+from check_bases import check_bases
+from check_coasting import Case, check_bridged, check_coasting
 from check_door import FILLED, check_door, check_string, check_written
 from check_places import PLACES, Asked, asked_in, check_places, check_seen, refusals_in
 from check_quarters import check_quarters
@@ -25,7 +26,7 @@ from check_telegrams import check_read_back, check_telegrams
 from checks import Checks
 from clock_string import ToldString
 from pulse_readers import FrameReader
-from reading import Reading, Refusal, Told, stamp, utc_minute
+from reading import BASES, Reading, Refusal, Told, stamp, utc_minute
 
 CASE_SIX = Reading(2024, 2, 29, 12, 34, 56, 4, False, False, False, 0)
 CASE_SIX_ONES = [2, 3, 6, 8, 12, 15, 16, 21, 25, 36, 37, 52, 56, 64, 65, 75, 84, 85, 86, 87, 93,
@@ -45,7 +46,7 @@ WHOLE_READERS = {3: ieee1344.read, 4: dcf77.read}  # by their ops
 
 def frame_of(reading: Reading) -> bytes:
     output = bytearray(ieee1344.LENGTH)
-    assert ieee1344.write(reading, output) == ieee1344.LENGTH
+    assert ieee1344.write(2000, reading, output) == ieee1344.LENGTH
     return bytes(output)
 
 
@@ -55,58 +56,61 @@ def moment(year: int, month: int, day: int, hour: int, minute: int, second: int,
 
 
 def check_dates(check: Checks) -> None:
-    """Cases 1 to 5 and 9."""
-    check.that(stamp(moment(2000, 1, 1, 0, 0, 0, 0)) == 0, "case 1")
-    told = clock_string.read(CASE_TWO)
-    check.that(isinstance(told, ToldString) and stamp(told.reading) == 536550209, "case 2")
-    check.that(stamp(moment(2017, 1, 1, 0, 59, 60, 4)) == 536550209, "case 3, leap second")
-    check.that(stamp(moment(2017, 1, 1, 0, 0, 0, 0)) == 536550210, "case 3, midnight")
-    check.that(stamp(moment(2017, 1, 2, 0, 59, 60, 4)) == Refusal(9), "case 4")
-    good = b"\x02D:29.02.24;T:4;U:12.34.56;    \x03"
-    check.that(isinstance(clock_string.read(good), ToldString), "case 5, 2024")
-    check.that(clock_string.read(good.replace(b"24;T", b"23;T")) == Refusal(16, 3),
-               "case 5, 2023")
+    """Cases 1 to 5 and 9; all but the last and the largest stamp by either base."""
+    for base in BASES:
+        check.that(stamp(base, moment(2000, 1, 1, 0, 0, 0, 0)) == 0, "case 1")
+        told = clock_string.read(base, CASE_TWO)
+        check.that(isinstance(told, ToldString) and stamp(base, told.reading) == 536550209, "case 2")
+        check.that(stamp(base, moment(2017, 1, 1, 0, 59, 60, 4)) == 536550209, "case 3, leap second")
+        check.that(stamp(base, moment(2017, 1, 1, 0, 0, 0, 0)) == 536550210, "case 3, midnight")
+        check.that(stamp(base, moment(2017, 1, 2, 0, 59, 60, 4)) == Refusal(9), "case 4")
+        good = b"\x02D:29.02.24;T:4;U:12.34.56;    \x03"
+        check.that(isinstance(clock_string.read(base, good), ToldString), "case 5, 2024")
+        check.that(clock_string.read(base, good.replace(b"24;T", b"23;T")) == Refusal(16, 3),
+                   "case 5, 2023")
     early = moment(2000, 1, 1, 0, 30, 0, 4)
-    check.that(isinstance(ieee1344.read(frame_of(early)), Told), "case 9, accepted")
-    check.that(stamp(early) == Refusal(12), "case 9, stamp")
-    check.that(stamp(moment(2099, 12, 31, 23, 59, 60, 0)) == 3155796524, "largest stamp")
+    check.that(isinstance(ieee1344.read(2000, frame_of(early)), Told), "case 9, accepted")
+    check.that(stamp(2000, early) == -1801, "case 9, stamp")
+    check.that(stamp(2000, moment(2099, 12, 31, 23, 59, 60, 0)) == 3155796524, "largest stamp")
 
 
 def check_month_ends(check: Checks) -> None:
     """L3: second 60 at the end of any UTC month, the bridge's pending bit and the long minute."""
     for string, value in SIXTY_STAMPED.items():
-        told = clock_string.read(string)
-        check.that(isinstance(told, ToldString) and stamp(told.reading) == value,
+        told = clock_string.read(2000, string)
+        check.that(isinstance(told, ToldString) and stamp(2000, told.reading) == value,
                    "accepted %r" % string)
     for string in SIXTY_REFUSED:
-        check.that(clock_string.read(string) == Refusal(9, 24), "refused %r" % string)
+        check.that(clock_string.read(2000, string) == Refusal(9, 24), "refused %r" % string)
     for second, pending in (("00", 0), ("01", 1), ("59", 1), ("60", 0)):
         frame = bytearray(ieee1344.LENGTH)
         string = ("\x02D:30.04.24;T:2;U:23.59.%s;  UA\x03" % second).encode()
-        check.that(bridge(string, frame) == 100, "bridged at " + second)
+        check.that(bridge(2000, string, frame) == 100, "bridged at " + second)
         check.that(frame[60] == pending, "pending at " + second)
     first = moment(2024, 3, 1, 1, 0, 0, 4)._replace(leap=True)
     marks = bytearray(61)
-    check.that(dcf77.write(first, 0, marks) == 61, "1 March, written")
-    check.that(dcf77.read(bytes(marks)) == Told(first, 0) and stamp(first) == 762575226, "1 March")
-    check.that(dcf77.read(bytes(marks[:59] + marks[60:])) == Refusal(9, 59), "1 March in 60 marks")
+    check.that(dcf77.write(2000, first, 0, marks) == 61, "1 March, written")
+    check.that(dcf77.read(2000, bytes(marks)) == Told(first, 0)
+               and stamp(2000, first) == 762575226, "1 March")
+    check.that(dcf77.read(2000, bytes(marks[:59] + marks[60:])) == Refusal(9, 59),
+               "1 March in 60 marks")
 
 
 def check_frames(check: Checks) -> None:
     """Cases 6, 7, 8, 10 and 11."""
     frame = frame_of(CASE_SIX)
     check.that([place for place in range(100) if frame[place] == 1] == CASE_SIX_ONES, "case 6")
-    check.that(ieee1344.read(frame) == Told(CASE_SIX), "case 6, read")
+    check.that(ieee1344.read(2000, frame) == Told(CASE_SIX), "case 6, read")
     cleared = frame[:84] + b"\x00" + frame[85:]
-    check.that(ieee1344.read(cleared) == Refusal(7, 80), "case 7")
+    check.that(ieee1344.read(2000, cleared) == Refusal(7, 80), "case 7")
     minute = bytearray(60)
-    check.that(dcf77.write(CASE_SIX._replace(second=0), 0, minute) == 60, "case 8, length")
+    check.that(dcf77.write(2000, CASE_SIX._replace(second=0), 0, minute) == 60, "case 8, length")
     check.that([place for place in range(60) if minute[place] == 1] == CASE_EIGHT_ONES, "case 8")
     check.that(minute[59] == 2, "case 8, gap")
     for offset, wanted in ((56, 100), (57, Refusal(8)), (-48, 100), (-49, Refusal(8))):
-        answer = ieee1344.write(CASE_SIX._replace(offset=offset), bytearray(100))
+        answer = ieee1344.write(2000, CASE_SIX._replace(offset=offset), bytearray(100))
         check.that(answer == wanted, "case 10, offset %d" % offset)
-    reader = FrameReader()
+    reader = FrameReader(2000)
     said = [(at, answer) for at, answer in enumerate(map(reader.take, frame + frame[1:]), 1)
             if answer is not None]
     check.that(said == [(100, Told(CASE_SIX)), (199, Told(CASE_SIX))], "case 11")
@@ -130,11 +134,12 @@ def check_layouts(check: Checks) -> None:
 
 def check_listing(check: Checks) -> None:
     header = "at kind answer value place\n"
-    listed = book.listing_text(b"\x01" + CASE_TWO + b"\x09")
-    check.that(listed == header + "0 1 ok 536550209 0\n33 9 no 14 0\n", "listing case")
-    check.that(book.listing_text(b"") == header, "empty listing")
-    check.that(book.listing_text(bytes(65537)) == header + "0 0 no 1 0\n", "too long a book")
-    check.that(book.listing_text(bytes(65536)) == header + "0 0 no 14 0\n", "largest book")
+    for base in BASES:
+        listed = book.listing_text(base, b"\x01" + CASE_TWO + b"\x09")
+        check.that(listed == header + "0 1 ok 536550209 0\n33 9 no 14 0\n", "listing case")
+        check.that(book.listing_text(base, b"") == header, "empty listing")
+        check.that(book.listing_text(base, bytes(65537)) == header + "0 0 no 1 0\n", "too long a book")
+        check.that(book.listing_text(base, bytes(65536)) == header + "0 0 no 14 0\n", "largest book")
 
 
 def check_order(check: Checks) -> None:
@@ -143,7 +148,7 @@ def check_order(check: Checks) -> None:
     stamped = []
     for _ in range(4000):
         reading = case_random.good_reading(dice)
-        value = stamp(reading)
+        value = stamp(2000, reading)
         if isinstance(value, int):
             stamped.append(((utc_minute(reading), reading.second), value))
     stamped.sort()
@@ -151,43 +156,45 @@ def check_order(check: Checks) -> None:
         check.that((one < two) == (first < second), "stamp order at %s" % (second,))
 
 
-def check_read(check: Checks, op: int, payload: bytes, line: str) -> None:
+def check_read(check: Checks, asked_case: Case, line: str) -> None:
     """What is read, written back to a buffer one byte too long."""
+    op, base, payload = asked_case
     if op == 1:
-        check_string(check, payload, line)
+        check_string(check, base, payload, line)
     elif line.startswith("time"):
-        told = WHOLE_READERS[op](payload)
+        told = WHOLE_READERS[op](base, payload)
         output = bytearray(FILLED * (len(payload) + 1))
-        answers.WRITERS[op + 4](told.reading, told.beside, b"", output)
+        answers.WRITERS[op + 4](base, told.reading, told.beside, b"", output)
         check.that(output == payload + FILLED, "write back " + line)
 
 
-def check_write(check: Checks, op: int, payload: bytes, line: str) -> None:
+def check_write(check: Checks, asked_case: Case, line: str) -> None:
     """What is written, read back; and the rest of the buffer is as it was."""
+    op, base, payload = asked_case
     words = line.split()
     output = b"" if words[-1] == "-" else bytes.fromhex(words[-1])
     length = int(words[1]) if words[0] == "wrote" else 0
     check.that(output[length:] == FILLED * (len(output) - length), "untouched " + line)
     if op in (10, 16):
-        check_bridged(check, op, payload, line)
+        check_bridged(check, asked_case, line)
     elif words[0] != "wrote":
         return
     elif op == 15:
-        check_read_back(check, payload, output[:length])
+        check_read_back(check, base, payload, output[:length])
     elif op in (5, 6):
-        check_written(check, op, payload, output[:length])
+        check_written(check, asked_case, output[:length])
     else:
         head = int.from_bytes(payload[12:14], "little") if op == 8 else None
-        told = WHOLE_READERS[op - 4](output[:length])
+        told = WHOLE_READERS[op - 4](base, output[:length])
         check.that(told == Told(answers.reading_of(payload), head), "read back " + line)
 
 
-def check_round_trip(check: Checks, op: int, payload: bytes, line: str) -> None:
+def check_round_trip(check: Checks, asked_case: Case, line: str) -> None:
     """What is read writes back to the same bytes; what is written reads back the same."""
-    if op in (1, 3, 4):
-        check_read(check, op, payload, line)
-    elif op in (5, 6, 7, 8, 10, 15, 16):
-        check_write(check, op, payload, line)
+    if asked_case[0] in (1, 3, 4):
+        check_read(check, asked_case, line)
+    elif asked_case[0] in (5, 6, 7, 8, 10, 15, 16):
+        check_write(check, asked_case, line)
 
 
 def check_changes(check: Checks, op: int, payload: bytes, line: str) -> None:
@@ -215,11 +222,12 @@ def check_streams(check: Checks) -> None:
     for name, make in makers.items():
         stream = b"".join(make())
         check.that(b"".join(make()) == stream, "%s is not deterministic" % name)
-        for op, payload in answers.cases_of(stream):
-            line = answers.answer_line(op, payload)
+        for asked_case in answers.cases_of(stream):
+            op, _, payload = asked_case
+            line = answers.answer_line(*asked_case)
             if line == answers.BAD:
                 continue
-            check_round_trip(check, op, payload, line)
+            check_round_trip(check, asked_case, line)
             if op >= 20:
                 check_changes(check, op, payload, line)
                 continue
@@ -234,7 +242,7 @@ def main() -> None:
     check = Checks()
     for part in (check_dates, check_month_ends, check_frames, check_layouts, check_listing,
                  check_places, check_door, check_coasting, check_telegrams, check_quarters,
-                 check_order, check_streams):
+                 check_bases, check_order, check_streams):
         part(check)
     for what in check.failed[:50]:
         print("failed: " + what)

@@ -5,7 +5,7 @@ that the two ways differ by the mark alone and that the frame reads back as it h
 import calendar
 from datetime import datetime, timedelta
 from itertools import product
-from typing import Tuple
+from typing import Sequence, Tuple
 
 import answers
 import case_coasting
@@ -16,6 +16,7 @@ from check_door import FILLED
 from checks import Checks
 from reading import Reading, Refusal, Told
 
+Case = Tuple[int, int, bytes]  # op, base, payload
 MARKED = b"\x02D:29.02.24;T:4;U:12.34.56; *  \x03"
 # Frames but for pulses 70..79, of which 71..74 are the quality and 75 the parity: case 6 of document 01;
 # a second that both announcements are pending in, 31.12.16 23:59:30 UTC; and the leap second after it.
@@ -62,10 +63,10 @@ def check_lines(check: Checks) -> None:
         for op, before, ten in ((10, b"\x64", worse), (16, b"\x64\x01", worse),
                                 (16, b"\x64\x02", dropped)):
             line = "wrote 100 " + "".join("0" + pulse for pulse in (frame % ten).replace(" ", ""))
-            check.that(answers.answer_line(op, before + string) == line,
+            check.that(answers.answer_line(op, 2000, before + string) == line,
                        "op %d, %r before %r" % (op, before, string))
     for payload, line in OTHERS:
-        check.that(answers.answer_line(16, payload) == line, "line of %r" % payload)
+        check.that(answers.answer_line(16, 2000, payload) == line, "line of %r" % payload)
 
 
 def mark_and_quality(string: bytes) -> Tuple[bool, int]:
@@ -77,8 +78,8 @@ def mark_and_quality(string: bytes) -> Tuple[bool, int]:
 def check_stream(check: Checks) -> None:
     """Strings of both lengths, with the mark and without it, of both qualities are accepted each way."""
     seen = set()
-    for op, payload in answers.cases_of(b"".join(case_coasting.make())):
-        if op == 16 and answers.answer_line(op, payload).startswith("wrote"):
+    for op, base, payload in answers.cases_of(b"".join(case_coasting.make())):
+        if op == 16 and answers.answer_line(op, base, payload).startswith("wrote"):
             seen.add((payload[1], len(payload) - 2, *mark_and_quality(payload[2:])))
     due = set(product((WORSE, DROPPED), (32, 68), (False, True), (0, 15)))
     check.that(seen == due, "accepted strings of the stream: %s" % (seen ^ due))
@@ -94,27 +95,29 @@ def due_in_frame(reading: Reading, quality: int) -> Reading:
                             change=reading.change and in_window and reading.minute == 59)
 
 
-def check_frames(check: Checks, string: bytes, reading: Reading, worse: bytes,
-                 dropped: bytes) -> None:
+def check_frames(check: Checks, base: int, string: bytes, reading: Reading,
+                 frames: Sequence[bytes]) -> None:
     """The two frames of an accepted string. Four ones more leave the parity as it is."""
+    worse, dropped = frames
     marked, own = mark_and_quality(string)
     differ = [place for place in range(100) if worse[place] != dropped[place]]
     check.that(differ == ([71, 72, 73, 74] if marked and own == 0 else []), "ways of %r" % string)
     for frame, quality in ((worse, 15 if marked else own), (dropped, own)):
         due = Told(due_in_frame(reading, quality))
-        check.that(ieee1344.read(frame) == due, "frame of %r, due %s" % (string, due))
+        check.that(ieee1344.read(base, frame) == due, "frame of %r, due %s" % (string, due))
 
 
-def check_bridged(check: Checks, op: int, payload: bytes, line: str) -> None:
+def check_bridged(check: Checks, asked: Case, line: str) -> None:
     """A line of op 10, which is that of the worse way, or of op 16. Whatever the way: room first, then
     the refusal that the string has anywhere, then 11 where its offset is an odd number of quarter hours,
     and nothing written; else a frame."""
+    op, base, payload = asked
     room, string = payload[0], payload[1:] if op == 10 else payload[2:]
-    worse, dropped = (answers.answer_line(16, bytes((room, way)) + string)
+    worse, dropped = (answers.answer_line(16, base, bytes((room, way)) + string)
                       for way in (WORSE, DROPPED))
     way = WORSE if op == 10 else payload[1]
     check.that(line == {WORSE: worse, DROPPED: dropped}.get(way), "op %d: %s" % (op, line))
-    told = clock_string.read(string) if room >= 100 else Refusal(1)
+    told = clock_string.read(base, string) if room >= 100 else Refusal(1)
     if not isinstance(told, Refusal) and told.reading.offset % 2 == 1:
         told = Refusal(11)
     if isinstance(told, Refusal):
@@ -126,7 +129,7 @@ def check_bridged(check: Checks, op: int, payload: bytes, line: str) -> None:
     check.that(written, "written by either way: " + line)
     if written:
         frames = [bytes.fromhex(said[2])[:100] for said in words]
-        check_frames(check, string, told.reading, *frames)
+        check_frames(check, base, string, told.reading, frames)
 
 
 def check_coasting(check: Checks) -> None:

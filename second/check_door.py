@@ -2,6 +2,8 @@
 it is; the position part; the bridge; books, whose kind fixes the length; and, for the cases of the
 streams, that what is read writes back and what is written reads back, as the string that is named."""
 
+from typing import Tuple
+
 import answers
 import book
 import clock_string
@@ -48,25 +50,25 @@ BOOKS = (
 def check_lines(check: Checks) -> None:
     """Literal lines, and that an op which is none is bad whatever it is given."""
     for string, line in LINES:
-        check.that(answers.answer_line(1, string) == line, "line of %r" % string)
+        check.that(answers.answer_line(1, 2000, string) == line, "line of %r" % string)
     for op in NO_OPS:
         for payload in (b"", SHORT[0], LONG[0]):
-            check.that(answers.answer_line(op, payload) == answers.BAD, "op %d" % op)
-    check.that(answers.answer_line(10, b"") == answers.BAD, "a bridge without room")
-    check.that(answers.answer_line(10, b"\x02") == "no 1 0 a5a5", "a bridge of nothing")
+            check.that(answers.answer_line(op, 2000, payload) == answers.BAD, "op %d" % op)
+    check.that(answers.answer_line(10, 2000, b"") == answers.BAD, "a bridge without room")
+    check.that(answers.answer_line(10, 2000, b"\x02") == "no 1 0 a5a5", "a bridge of nothing")
 
 
 def check_kinds(check: Checks) -> None:
     """A good string is named by its length, and 68 bytes have a part; a refused string has none."""
     for string in SHORT + LONG:
-        told = clock_string.read(string)
+        told = clock_string.read(2000, string)
         check.that(told[0] == KINDS[len(string)], "kind of %r" % string)
         part = string[41:67] if len(string) == 68 else b""
-        check.that(clock_string.position_part(string) == part, "part of %r" % string)
-        check.that(bridge(string, bytearray(100)) == 100, "bridged %r" % string)
+        check.that(clock_string.position_part(2000, string) == part, "part of %r" % string)
+        check.that(bridge(2000, string, bytearray(100)) == 100, "bridged %r" % string)
     for string in REFUSED:
-        check.that(isinstance(clock_string.read(string), Refusal)
-                   and clock_string.position_part(string) == b"", "refused %r" % string)
+        check.that(isinstance(clock_string.read(2000, string), Refusal)
+                   and clock_string.position_part(2000, string) == b"", "refused %r" % string)
 
 
 def check_lengths(check: Checks) -> None:
@@ -75,9 +77,10 @@ def check_lengths(check: Checks) -> None:
         for length in OTHER_LENGTHS:
             string, frame = (text * (length // len(text) + 1))[:length], bytearray(FILLED * 100)
             name = "%d bytes of %r" % (length, text)
-            check.that(clock_string.read(string) == Refusal(1, 0), name)
-            check.that(clock_string.position_part(string) == b"", "part of " + name)
-            check.that(bridge(string, frame) == (1, 0) and frame == FILLED * 100, "bridge of " + name)
+            check.that(clock_string.read(2000, string) == Refusal(1, 0), name)
+            check.that(clock_string.position_part(2000, string) == b"", "part of " + name)
+            check.that(bridge(2000, string, frame) == (1, 0) and frame == FILLED * 100,
+                       "bridge of " + name)
 
 
 def check_room(check: Checks) -> None:
@@ -85,17 +88,17 @@ def check_room(check: Checks) -> None:
     for string in SHORT + LONG + REFUSED + (b"",):
         for room in (0, 1, 32, 68, 99):
             frame = bytearray(FILLED * room)
-            check.that(bridge(string, frame) == (1, 0) and frame == FILLED * room,
+            check.that(bridge(2000, string, frame) == (1, 0) and frame == FILLED * room,
                        "room %d for %r" % (room, string))
 
 
 def check_books(check: Checks) -> None:
-    check.that(stamp(PLAIN) == 762530521, "case 6's stamp")
+    check.that(stamp(2000, PLAIN) == 762530521, "case 6's stamp")
     for records, lines in BOOKS:
-        check.that(book.listing_lines(records) == lines, "book %r" % records)
+        check.that(book.listing_lines(2000, records) == lines, "book %r" % records)
 
 
-def check_string(check: Checks, payload: bytes, line: str) -> None:
+def check_string(check: Checks, base: int, payload: bytes, line: str) -> None:
     """A line of op 1: the word goes by the length, the part by the word; and an accepted string is
     written back to the same bytes by the writer of the kind that is named."""
     word = line.split()[0]
@@ -107,20 +110,21 @@ def check_string(check: Checks, payload: bytes, line: str) -> None:
     if word == "no":
         return
     output = bytearray(FILLED * (len(payload) + 1))
-    kind, reading, coasting = clock_string.read(payload)
+    kind, reading, coasting = clock_string.read(base, payload)
     if kind == "meinberg":
-        meinberg.write(reading, coasting, output)
+        meinberg.write(base, reading, coasting, output)
     else:
-        erlangen.write(reading, coasting, clock_string.position_part(payload), output)
+        erlangen.write(base, reading, coasting, clock_string.position_part(base, payload), output)
     check.that(output == payload + FILLED, "write back " + line)
 
 
-def check_written(check: Checks, op: int, payload: bytes, string: bytes) -> None:
+def check_written(check: Checks, asked: Tuple[int, int, bytes], string: bytes) -> None:
     """What a string writer wrote is read as that string, with the same reading, mark and part."""
+    op, base, payload = asked
     told = (KINDS[32 if op == 5 else 68], answers.reading_of(payload), any(payload[12:14]))
-    check.that(clock_string.read(string) == told, "read back %r" % string)
+    check.that(clock_string.read(base, string) == told, "read back %r" % string)
     part = payload[15:] if op == 6 else b""
-    check.that(clock_string.position_part(string) == part, "part read back %r" % string)
+    check.that(clock_string.position_part(base, string) == part, "part read back %r" % string)
 
 
 def check_door(check: Checks) -> None:

@@ -43,16 +43,18 @@ Asked = Tuple[int, int]
 # every place; each must occur in the named streams, and no other may. Where a byte is wrong (2), any
 # place of the input, or of the position part, may be the lowest.
 PLACES: Dict[Asked, Table] = {
-    (1, 32): MEINBERG, (1, 68): ERLANGEN, (1, 0): placeless(1),
-    (3, 0): joined(FRAME, placeless(1)), (4, 0): joined(MINUTE, placeless(1)),
-    (5, 0): placeless(1, 15, 16, 17, 8, 9, 11),
-    (6, 0): joined(placeless(1, 15, 16, 17, 8, 9, 11), {2: set(range(26))}),
-    (7, 0): placeless(1, 15, 16, 17, 8, 9, 11), (8, 0): placeless(1, 15, 16, 17, 8, 9, 11),
-    (9, 0): placeless(15, 16, 17, 8, 9, 12),
-    (10, 32): joined(MEINBERG, placeless(1)), (10, 68): joined(ERLANGEN, placeless(1, 11)),
-    (10, 0): placeless(1), (11, 0): FRAME, (12, 0): MINUTE,
-    (13, 0): joined(MEINBERG, ERLANGEN, FRAME, MINUTE, placeless(12, 13, 14)),
-    (14, 0): {}, (15, 0): placeless(1, 18, 15, 16, 17, 9, 12)}
+    (1, 32): joined(MEINBERG, placeless(19)), (1, 68): joined(ERLANGEN, placeless(19)),
+    (1, 0): placeless(1),
+    (3, 0): joined(FRAME, placeless(1, 19)), (4, 0): joined(MINUTE, placeless(1, 19)),
+    (5, 0): placeless(1, 19, 15, 16, 17, 8, 9, 11),
+    (6, 0): joined(placeless(1, 19, 15, 16, 17, 8, 9, 11), {2: set(range(26))}),
+    (7, 0): placeless(1, 19, 15, 16, 17, 8, 9, 11), (8, 0): placeless(1, 19, 15, 16, 17, 8, 9, 11),
+    (9, 0): placeless(19, 15, 16, 17, 8, 9, 12),
+    (10, 32): joined(MEINBERG, placeless(1, 19)), (10, 68): joined(ERLANGEN, placeless(1, 19, 11)),
+    (10, 0): placeless(1), (11, 0): joined(FRAME, placeless(19)),
+    (12, 0): joined(MINUTE, placeless(19)),
+    (13, 0): joined(MEINBERG, ERLANGEN, FRAME, MINUTE, placeless(19, 12, 13, 14)),
+    (14, 0): {}, (15, 0): placeless(1, 19, 18, 15, 16, 17, 9, 12)}
 # A bridge refuses alike, whatever becomes of the coasting mark.
 PLACES.update({(16, length): PLACES[10, length] for length in (32, 68, 0)})
 
@@ -115,15 +117,15 @@ def check_refusal(check: Checks, kind: int, body: bytes, due: Tuple[int, int]) -
     string has no position part."""
     body = bytes(body)
     name = "%d %r" % (kind, body)
-    check.that(book.KINDS[kind][1](body) == due, "place " + name)
-    listed = book.listing_lines(bytes((kind,)) + body)
+    check.that(book.KINDS[kind][1](2000, body) == due, "place " + name)
+    listed = book.listing_lines(2000, bytes((kind,)) + body)
     check.that(listed == ["0 %d no %d %d" % ((kind,) + due)], "listed " + name)
     if kind in (1, 2):
         frame = bytearray(100)
-        check.that(bridge(body, frame) == due and frame == bytearray(100), "bridged " + name)
-        check.that(clock_string.position_part(body) == b"", "part " + name)
+        check.that(bridge(2000, body, frame) == due and frame == bytearray(100), "bridged " + name)
+        check.that(clock_string.position_part(2000, body) == b"", "part " + name)
     else:
-        reader = FrameReader() if kind == 3 else MinuteReader()
+        reader = FrameReader(2000) if kind == 3 else MinuteReader(2000)
         said = [reader.take(pulse) for pulse in (body if kind == 3 else b"\x02" + body)]
         check.that(said[-1] == due and not any(said[:-1]), "said " + name)
 
@@ -174,17 +176,17 @@ def check_minutes(check: Checks) -> None:
 def check_writers(check: Checks) -> None:
     """The order of the codes, place 0 and an untouched buffer; a head too large is 17 too."""
     announced = PLAIN._replace(leap=True, change=True)  # which Meinberg's string does not carry
-    check.that(meinberg.write(announced, False, bytearray(32)) == (11, 0), "not carried")
+    check.that(meinberg.write(2000, announced, False, bytearray(32)) == (11, 0), "not carried")
     for number, (code, _) in enumerate(ORDER):
         faults = {name: value for _, fault in ORDER[number:] for name, value in fault.items()}
         reading, output = announced._replace(**faults), bytearray(128)
-        answers = [meinberg.write(reading, False, output), ieee1344.write(reading, output),
-                   erlangen.write(reading, False, POSITION, output),
-                   dcf77.write(reading, 0, output), stamp(reading)]
+        answers = [meinberg.write(2000, reading, False, output), ieee1344.write(2000, reading, output),
+                   erlangen.write(2000, reading, False, POSITION, output),
+                   dcf77.write(2000, reading, 0, output), stamp(2000, reading)]
         check.that(answers == [Refusal(code, 0)] * 5, "writers by %d" % code)
         check.that(output == bytearray(128), "a buffer touched by %d" % code)
     for fault, code in HEAD_ORDER:
-        refusal = dcf77.write(BASE._replace(**fault), 32768, bytearray(61))
+        refusal = dcf77.write(2000, BASE._replace(**fault), 32768, bytearray(61))
         check.that(refusal == (code, 0), "a head too large with %s" % fault)
 
 
@@ -221,7 +223,7 @@ def check_seen(check: Checks, seen: Dict[Asked, Set[Tuple[int, int]]]) -> None:
         check.that(came == due, "refusals of op %d, length %d: %s" % (*asked, sorted(came ^ due)))
         check.that((2 in table) == (came != seen[asked]), "wrong bytes of op %d, length %d" % asked)
     codes = {code for refusals in seen.values() for code, _ in refusals}
-    check.that(codes == {1, 2, 3, 4, *range(6, 19)}, "every code of the papers, and not 5")
+    check.that(codes == {1, 2, 3, 4, *range(6, 20)}, "every code of the papers, and not 5")
 
 
 def check_places(check: Checks) -> None:

@@ -55,7 +55,7 @@ LINES = (
     (1, TOO_LATE, "no 9 20 part -"), (10, b"\x64" + TOO_LATE, "no 9 20 " + "a5" * 100))
 # Local time and offset, and the stamp; each three are successive seconds.
 STAMPS = (
-    ((2000, 1, 1, 5, 44, 59, 23), Refusal(12)), ((2000, 1, 1, 5, 44, 60, 23), Refusal(12)),
+    ((2000, 1, 1, 5, 44, 59, 23), -2), ((2000, 1, 1, 5, 44, 60, 23), -1),
     ((2000, 1, 1, 5, 45, 0, 23), 0),
     ((2099, 12, 31, 14, 44, 59, -37), 3155796523), ((2099, 12, 31, 14, 44, 60, -37), 3155796524),
     ((2099, 12, 31, 14, 45, 0, -37), Refusal(12)),
@@ -72,7 +72,7 @@ PULSES: Dict[int, List[int]] = {
 
 def check_lines(check: Checks) -> None:
     for op, payload, line in LINES:
-        check.that(answers.answer_line(op, payload) == line, "op %d of %r" % (op, payload))
+        check.that(answers.answer_line(op, 2000, payload) == line, "op %d of %r" % (op, payload))
 
 
 def check_texts(check: Checks) -> None:
@@ -80,40 +80,41 @@ def check_texts(check: Checks) -> None:
     for text, offset in GOOD.items():
         string = PLANT.replace(b"+05:45", text.encode())
         told = ToldString("erlangen", PLANT_READING._replace(offset=offset), False)
-        check.that(clock_string.read(string) == told, "said " + text)
+        check.that(clock_string.read(2000, string) == told, "said " + text)
     for text in BAD:
         string, frame = PLANT.replace(b"+05:45", text.encode()), bytearray(FILLED * 100)
-        check.that(clock_string.read(string) == Refusal(8, 24), "refused " + text)
-        check.that(bridge(string, frame) == (8, 24) and frame == FILLED * 100, "bridged " + text)
+        check.that(clock_string.read(2000, string) == Refusal(8, 24), "refused " + text)
+        check.that(bridge(2000, string, frame) == (8, 24) and frame == FILLED * 100, "bridged " + text)
 
 
 def check_stamps(check: Checks) -> None:
     """Literal ones; and every zone gives one moment the same stamp."""
     for (*local, offset), due in STAMPS:
-        check.that(stamp(Reading(*local, offset, False, False, False, 0)) == due,
+        check.that(stamp(2000, Reading(*local, offset, False, False, False, 0)) == due,
                    "stamp of %s at %d" % (local, offset))
     for offset in OFFSETS:
         at = datetime(2024, 2, 29, 6, 49) + timedelta(minutes=15 * offset)
         reading = Reading(*at.timetuple()[:5], 56, offset, False, False, False, 0)
-        check.that(stamp(reading) == 762513421, "the plant's moment at %d" % offset)
+        check.that(stamp(2000, reading) == 762513421, "the plant's moment at %d" % offset)
 
 
 def check_zones(check: Checks) -> None:
     """The zones that Meinberg's string and DCF77 have, and no other."""
     for letter, zone in MEINBERG_ZONES.items():
-        told = clock_string.read(("\x02D:29.02.24;T:4;U:12.34.56;  %s \x03" % letter).encode())
+        told = clock_string.read(2000, b"\x02D:29.02.24;T:4;U:12.34.56;  %s \x03" % letter.encode())
         check.that((told.reading.offset, told.reading.summer) == zone, "zone letter %r" % letter)
     carried: Dict[str, List[Tuple[int, bool]]] = {"meinberg": [], "dcf77": []}
     for offset in NUMBERS:
         for summer in (False, True):
             reading = PLANT_READING._replace(offset=offset, summer=summer, second=0)
             marks = bytearray(60)
-            if meinberg.write(reading, False, bytearray(32)) == 32:
+            if meinberg.write(2000, reading, False, bytearray(32)) == 32:
                 carried["meinberg"].append((offset, summer))
-            if dcf77.write(reading, 0, marks) == 60:
+            if dcf77.write(2000, reading, 0, marks) == 60:
                 carried["dcf77"].append((offset, summer))
                 check.that(MINUTE_ZONES[marks[17], marks[18]] == (offset, summer)
-                           and dcf77.read(bytes(marks)) == Told(reading, 0), "minute at %d" % offset)
+                           and dcf77.read(2000, bytes(marks)) == Told(reading, 0),
+                           "minute at %d" % offset)
     check.that(carried["meinberg"] == list(MEINBERG_ZONES.values()), "zones of a Meinberg string")
     check.that(carried["dcf77"] == list(MINUTE_ZONES.values()), "zones of a minute")
 
@@ -123,22 +124,24 @@ def check_written(check: Checks) -> None:
     refuses the odd by 11, and by 8 what is out of range, odd or even."""
     for offset in NUMBERS:
         reading, string, frame = PLANT_READING._replace(offset=offset), bytearray(68), bytearray(100)
-        in_string = erlangen.write(reading, False, POSITION, string)
-        in_frame = ieee1344.write(reading, frame)
+        in_string = erlangen.write(2000, reading, False, POSITION, string)
+        in_frame = ieee1344.write(2000, reading, frame)
         at = "at %d" % offset
         if offset not in OFFSETS:
-            check.that(in_string == in_frame == stamp(reading) == (8, 0), "out of range " + at)
+            check.that(in_string == in_frame == stamp(2000, reading) == (8, 0), "out of range " + at)
             continue
         text = "%s%02d:%02d" % ("-" if offset < 0 else "+", *divmod(15 * abs(offset), 60))
         check.that(in_string == 68 and string[24:30] == text.encode(), "text " + at)
-        check.that(clock_string.read(bytes(string)) == ("erlangen", reading, False), "string " + at)
+        told = clock_string.read(2000, bytes(string))
+        check.that(told == ("erlangen", reading, False), "string " + at)
         if offset in EVEN:
-            check.that(in_frame == 100 and ieee1344.read(bytes(frame)) == Told(reading), "frame " + at)
+            check.that(in_frame == 100 and ieee1344.read(2000, bytes(frame)) == Told(reading),
+                       "frame " + at)
         else:
             check.that(in_frame == (11, 0) and frame == bytes(100), "no frame " + at)
     for offset, ones in PULSES.items():
         frame = bytearray(100)
-        ieee1344.write(PLANT_READING._replace(offset=offset), frame)
+        ieee1344.write(2000, PLANT_READING._replace(offset=offset), frame)
         said = [place for place in range(64, 71) if frame[place] == 1]
         check.that(said == ones, "pulses at %d" % offset)
 
@@ -150,13 +153,13 @@ def check_bridge(check: Checks) -> None:
         reading = PLANT_READING._replace(offset=offset)
         for coasting in (False, True):
             string = bytearray(68)
-            erlangen.write(reading, coasting, POSITION, string)
+            erlangen.write(2000, reading, coasting, POSITION, string)
             for way in Coasting:
                 frame = bytearray(FILLED * 100)
-                answer = bridge_with(bytes(string), way, frame)
+                answer = bridge_with(2000, bytes(string), way, frame)
                 quality = 15 if coasting and way is Coasting.WORSE else 0
                 if offset in EVEN:
-                    told = ieee1344.read(bytes(frame))
+                    told = ieee1344.read(2000, bytes(frame))
                     due = answer == 100 and told == Told(reading._replace(quality=quality))
                 else:
                     due = answer == (11, 0) and frame == FILLED * 100
@@ -171,7 +174,7 @@ def check_order(check: Checks) -> None:
         reading = PLANT_READING._replace(**wrong)
         for room, due in ((99, 1), (100, code)):
             frame = bytearray(FILLED * room)
-            check.that(ieee1344.write(reading, frame) == (due, 0) and frame == FILLED * room,
+            check.that(ieee1344.write(2000, reading, frame) == (due, 0) and frame == FILLED * room,
                        "frame's writer by %d, room %d" % (code, room))
 
 

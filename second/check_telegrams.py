@@ -78,28 +78,28 @@ RUNS = ((datetime(2024, 3, 30), 3, datetime(2024, 3, 31, 1), datetime(2025, 1, 1
         (datetime(2016, 12, 30), 3, datetime(2020, 1, 1), datetime(2020, 1, 1), date(2016, 12, 31)))
 
 
-def made(asked: Asked) -> Tuple[Union[int, Refusal], bytes]:
+def made(asked: Asked, base: int = 2000) -> Tuple[Union[int, Refusal], bytes]:
     """The writer's answer, and the buffer after it."""
     *parts, room = telegram_parts(asked_bytes(asked))
     output = bytearray([FILLING]) * room
-    return telegram.write(*parts, output), bytes(output)
+    return telegram.write(base, *parts, output), bytes(output)
 
 
-def marks_of(asked: Asked) -> bytes:
+def marks_of(asked: Asked, base: int = 2000) -> bytes:
     """The telegram, empty where it was refused."""
-    answer, output = made(asked)
+    answer, output = made(asked, base)
     return output[:answer] if isinstance(answer, int) else b""
 
 
 def check_literals(check: Checks) -> None:
     """Both changes of 2024 and the leap second of 2016, minute by minute and mark by mark."""
     for sent, named, offset, summer, change in CHANGES_OF_2024:
-        told = dcf77.read(marks_of(sent_at(datetime(*sent), head=1234)))
+        told = dcf77.read(2000, marks_of(sent_at(datetime(*sent), head=1234)))
         check.that(told == ((*named, 0, offset, summer, False, change, 0), 1234), "sent %s" % (sent,))
     for sent, named, leap, length in LEAP_OF_2016:
         asked = with_leap(date(2016, 12, 31), sent_at(datetime(*sent)))
         marks = marks_of(asked)
-        told = dcf77.read(marks)
+        told = dcf77.read(2000, marks)
         check.that(len(marks) == length, "marks sent %s" % (sent,))
         check.that(told == ((*named, 0, 4, False, leap, False, 0), 0), "leap, sent %s" % (sent,))
         unset = marks_of(asked._replace(leap_set=0))
@@ -197,7 +197,7 @@ def check_runs(check: Checks) -> None:
     with its head, and nothing else; one telegram is long where there is a leap second."""
     for first, days, begin, end, leap in RUNS:
         asked = with_leap(leap, ASKED) if leap else ASKED
-        reader, lengths = MinuteReader(), []
+        reader, lengths = MinuteReader(2000), []
         check.that(reader.take(GAP) is None, "said at the first gap")
         for number in range(days * 1440):
             sent = first + number * MINUTE
@@ -213,10 +213,10 @@ def check_runs(check: Checks) -> None:
         check.that(lengths.count(61) == (leap is not None), "long telegrams from %s" % first)
 
 
-def check_read_back(check: Checks, payload: bytes, marks: bytes) -> None:
+def check_read_back(check: Checks, base: int, payload: bytes, marks: bytes) -> None:
     """A telegram that was made reads as the minute after the one being sent, with its head."""
     _, _, sent, head, _ = telegram_parts(payload)
-    told = dcf77.read(marks)
+    told = dcf77.read(base, marks)
     check.that(isinstance(told, Told) and told.beside == head
                and utc_minute(told.reading) == datetime(*sent) + MINUTE, "telegram %r" % (sent,))
 

@@ -21,21 +21,22 @@ class ToldString(NamedTuple):
     coasting: bool
 
 
-def read(data: bytes) -> Union[ToldString, Refusal]:
-    """What the string of this length tells, or its refusal; any other length is refused by 1."""
+def read(base: int, data: bytes) -> Union[ToldString, Refusal]:
+    """What the string of this length tells, or its refusal; any other length is refused by 1, whatever
+    the base."""
     if len(data) not in STRINGS:
         return Refusal(1)
     kind, read_format = STRINGS[len(data)]
-    answer = read_format(data)
+    answer = read_format(base, data)
     if isinstance(answer, Refusal):
         return answer
     return ToldString(kind, answer.reading, answer.beside)
 
 
-def position_part(data: bytes) -> bytes:
+def position_part(base: int, data: bytes) -> bytes:
     """Bytes 41..66 of an accepted Uni Erlangen string; empty for a Meinberg string, which has no
     such part, and for a refused one."""
-    answer = read(data)
+    answer = read(base, data)
     if isinstance(answer, Refusal) or answer.kind != ERLANGEN:
         return b""
     return bytes(data[erlangen.POSITION_START:erlangen.POSITION_START + erlangen.POSITION_LENGTH])

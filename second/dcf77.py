@@ -6,8 +6,8 @@ from typing import Optional, Union
 
 from layout import (digit_refusal, digits_that_can_exceed, field_value, form_refusal, ones_are_odd,
                     parity_refusal, put_field)
-from reading import (FIRST_YEAR, Answer, Reading, Refusal, Told, after_leap_minute, date_refusal,
-                     fields_refusal, reading_refusal, time_refusal, weekday)
+from reading import (Answer, Reading, Refusal, Told, after_leap_minute, base_refusal, date_refusal,
+                     digits_of, fields_refusal, reading_refusal, time_refusal, weekday, year_of)
 
 LENGTH = 60
 LARGEST_PLACE = 59
@@ -55,24 +55,25 @@ def is_long(reading: Reading) -> bool:
     return bool(reading.leap) and after_leap_minute(reading)
 
 
-def marks_refusal(marks: bytes) -> Optional[Refusal]:
-    """Codes 1 to 4: what is wrong before any field means anything."""
+def marks_refusal(base: int, marks: bytes) -> Optional[Refusal]:
+    """Codes 1, 19, 2, 3 and 4: what is wrong before any field means anything."""
     if len(marks) not in ALLOWED:
         return Refusal(1)
-    return (form_refusal(marks, ALLOWED[len(marks)]) or digit_refusal(marks, DIGITS)
+    return (form_refusal(base, marks, ALLOWED[len(marks)]) or digit_refusal(marks, DIGITS)
             or parity_refusal(marks, PARITY_GROUPS))
 
 
-def read(marks: bytes) -> Answer:
+def read(base: int, marks: bytes) -> Answer:
     """The reading of the named minute with the head beside it, or the first refusal."""
-    refusal = marks_refusal(marks)
+    refusal = marks_refusal(base, marks)
     if refusal is not None:
         return refusal
     said = {name: field_value(marks, field) for name, field in FIELDS.items()}
-    reading = Reading(FIRST_YEAR + said["year"], said["month"], said["day"], said["hour"],
+    reading = Reading(year_of(base, said["year"]), said["month"], said["day"], said["hour"],
                       said["minute"], 0, 0, False, bool(said["leap"]), bool(said["change"]), 0)
     # No mark says the second, which is 0 and never wrong.
-    refusal = time_refusal(reading, PLACES) or date_refusal(reading, said["weekday"], PLACES)
+    refusal = (time_refusal(reading, PLACES)
+               or date_refusal(base, reading, said["weekday"], PLACES))
     if refusal is not None:
         return refusal
     zone = ZONES.get((said["summer zone"], said["winter zone"]))
@@ -100,7 +101,7 @@ def said_of(reading: Reading, head: int) -> dict:
         "head": head, "change": int(reading.change), "leap": int(reading.leap), "start": 1,
         "summer zone": int(reading.summer), "winter zone": int(not reading.summer),
         "minute": reading.minute, "hour": reading.hour, "day": reading.day,
-        "weekday": weekday(reading), "month": reading.month, "year": reading.year - FIRST_YEAR,
+        "weekday": weekday(reading), "month": reading.month, "year": digits_of(reading.year),
     }
 
 
@@ -115,11 +116,12 @@ def minute_of(said: dict, length: int) -> bytearray:
     return marks
 
 
-def write(reading: Reading, head: int, output: bytearray) -> Union[int, Refusal]:
+def write(base: int, reading: Reading, head: int, output: bytearray) -> Union[int, Refusal]:
     """Writes 60 or 61 marks at the start of the output; a refusal leaves it as it was."""
     if len(output) < LENGTH:
         return Refusal(1)
-    refusal = fields_refusal(reading) or head_refusal(head) or reading_refusal(reading)
+    refusal = (base_refusal(base) or fields_refusal(base, reading) or head_refusal(head)
+               or reading_refusal(base, reading))
     if refusal is not None:
         return refusal
     if cannot_carry(reading):

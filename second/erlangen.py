@@ -4,9 +4,9 @@ Reads and writes it as document 01 draws it. L9: the offset's minutes are 00, 15
 from typing import Optional, Union
 
 from layout import form_refusal, text_number
-from reading import (FAILED, FIRST_YEAR, LOCKED, Answer, Reading, Refusal, Told,
-                     date_refusal, offset_refusal, reading_refusal, second_refusal, time_refusal,
-                     weekday)
+from reading import (FAILED, LOCKED, Answer, Reading, Refusal, Told, base_refusal, date_refusal,
+                     digits_of, offset_refusal, reading_refusal, second_refusal, time_refusal, weekday,
+                     year_of)
 
 LENGTH = 68
 LARGEST_PLACE = 67
@@ -43,19 +43,19 @@ def said_offset(data: bytes) -> Optional[int]:
     return None if offset_refusal(offset) else offset
 
 
-def read(data: bytes) -> Answer:
+def read(base: int, data: bytes) -> Answer:
     """The reading with coasting beside it, or the first refusal.
     For the door alone: clock_string.read is what reads a string."""
-    refusal = form_refusal(data, ALLOWED)
+    refusal = form_refusal(base, data, ALLOWED)
     if refusal is not None:
         return refusal
     reading = Reading(
-        FIRST_YEAR + text_number(data, 7), text_number(data, 4), text_number(data, 1),
+        year_of(base, text_number(data, 7)), text_number(data, 4), text_number(data, 1),
         text_number(data, 14), text_number(data, 17), text_number(data, 20),
         0, data[34] == ord("S"), data[36] == ord("A"), data[35] == ord("!"),
         FAILED if data[32] == ord("#") else LOCKED)
     refusal = (time_refusal(reading, PLACES)
-               or date_refusal(reading, text_number(data, PLACES["weekday"], 1), PLACES))
+               or date_refusal(base, reading, text_number(data, PLACES["weekday"], 1), PLACES))
     if refusal is not None:
         return refusal
     offset = said_offset(data)
@@ -79,7 +79,7 @@ def text_of(reading: Reading, coasting: bool) -> str:
     """The 41 characters before the position part."""
     hours, quarters = divmod(abs(reading.offset), len(QUARTERS))
     return "\x02%02d.%02d.%02d; %d; %02d:%02d:%02d; %s%02d:%02d; %s%s%s%s%s %s; " % (
-        reading.day, reading.month, reading.year % 100, weekday(reading),
+        reading.day, reading.month, digits_of(reading.year), weekday(reading),
         reading.hour, reading.minute, reading.second,
         "-" if reading.offset < 0 else "+", hours, QUARTERS[quarters],
         "#" if reading.quality == FAILED else " ",
@@ -90,12 +90,12 @@ def text_of(reading: Reading, coasting: bool) -> str:
         "L" if reading.second == 60 else " ")
 
 
-def write(reading: Reading, coasting: bool, position: bytes,
+def write(base: int, reading: Reading, coasting: bool, position: bytes,
           output: bytearray) -> Union[int, Refusal]:
     """Writes 68 bytes at the start of the output; a refusal leaves it as it was."""
     if len(output) < LENGTH or len(position) != POSITION_LENGTH:
         return Refusal(1)
-    refusal = position_refusal(position) or reading_refusal(reading)
+    refusal = base_refusal(base) or position_refusal(position) or reading_refusal(base, reading)
     if refusal is not None:
         return refusal
     if reading.quality not in (LOCKED, FAILED):

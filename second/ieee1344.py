@@ -7,8 +7,9 @@ from typing import Optional, Union
 
 from layout import (digit_refusal, digits_that_can_exceed, field_value, form_refusal, ones_are_odd,
                     parity_refusal, put_field)
-from reading import (FIRST_YEAR, Answer, Reading, Refusal, Told, lowest_refusal, offset_refusal,
-                     reading_refusal, second_of_day, second_refusal, wrong_in_time)
+from reading import (Answer, Reading, Refusal, Told, base_refusal, digits_of, lowest_refusal,
+                     offset_refusal, reading_refusal, second_of_day, second_refusal, wrong_in_time,
+                     year_of)
 
 LENGTH = 100
 LARGEST_PLACE = 99
@@ -68,15 +69,15 @@ def said_added(pulses: bytes) -> Optional[int]:
     return -size if size else None
 
 
-def pulses_refusal(pulses: bytes) -> Optional[Refusal]:
-    """Codes 1 to 4: what is wrong before any field means anything."""
-    return (form_refusal(pulses, ALLOWED) or digit_refusal(pulses, DIGITS)
+def pulses_refusal(base: int, pulses: bytes) -> Optional[Refusal]:
+    """Codes 1, 19, 2, 3 and 4: what is wrong before any field means anything."""
+    return (form_refusal(base, pulses, ALLOWED) or digit_refusal(pulses, DIGITS)
             or parity_refusal(pulses, {PLACES["parity"]: PARITY_PLACES}))
 
 
-def read(pulses: bytes) -> Answer:
+def read(base: int, pulses: bytes) -> Answer:
     """The reading, or the first refusal."""
-    refusal = pulses_refusal(pulses)
+    refusal = pulses_refusal(base, pulses)
     if refusal is not None:
         return refusal
     said = {name: field_value(pulses, field) for name, field in FIELDS.items()}
@@ -84,7 +85,7 @@ def read(pulses: bytes) -> Answer:
     refusal = lowest_refusal(15, wrong_in_time(*clock), PLACES)
     if refusal is not None:
         return refusal
-    day = date_of_day(FIRST_YEAR + said["year"], said["day of year"])
+    day = date_of_day(year_of(base, said["year"]), said["day of year"])
     if day is None:
         return Refusal(16, PLACES["day of year"])
     if said["second of day"] != second_of_day(*clock):
@@ -111,7 +112,7 @@ def said_of(reading: Reading) -> dict:
     return {
         "second": reading.second, "minute": reading.minute, "hour": reading.hour,
         "day of year": (day - date(reading.year, 1, 1)).days + 1,
-        "year": reading.year - FIRST_YEAR,
+        "year": digits_of(reading.year),
         "leap pending": int(reading.leap), "change pending": int(reading.change),
         "summer": int(reading.summer), "minus": 1 if added < 0 else 0,
         "offset hours": abs(added) // HOUR, "offset half hour": abs(added) % HOUR // HALF_HOUR,
@@ -131,11 +132,11 @@ def frame_of(said: dict) -> bytearray:
     return pulses
 
 
-def write(reading: Reading, output: bytearray) -> Union[int, Refusal]:
+def write(base: int, reading: Reading, output: bytearray) -> Union[int, Refusal]:
     """Writes 100 pulses at the start of the output; a refusal leaves it as it was."""
     if len(output) < LENGTH:
         return Refusal(1)
-    refusal = reading_refusal(reading)
+    refusal = base_refusal(base) or reading_refusal(base, reading)
     if refusal is not None:
         return refusal
     if cannot_carry(reading):

@@ -3,7 +3,7 @@ A pulse field is a list of (pulse, weight); its value is the sum of the weights 
 
 from typing import FrozenSet, Iterable, List, Mapping, Optional, Sequence, Tuple
 
-from reading import Refusal
+from reading import Refusal, base_refusal
 
 Field = Sequence[Tuple[int, int]]
 
@@ -16,10 +16,14 @@ def lowest_bad_place(data: bytes, allowed: Sequence[FrozenSet[int]]) -> Optional
     return None
 
 
-def form_refusal(data: bytes, allowed: Sequence[FrozenSet[int]]) -> Optional[Refusal]:
-    """Code 1 for another length than that of the layout, code 2 at the lowest bad place."""
+def form_refusal(base: int, data: bytes, allowed: Sequence[FrozenSet[int]]) -> Optional[Refusal]:
+    """Code 1 for another length than that of the layout, code 19 for what is no base, code 2 at the
+    lowest bad place."""
     if len(data) != len(allowed):
         return Refusal(1)
+    refusal = base_refusal(base)
+    if refusal is not None:
+        return refusal
     place = lowest_bad_place(data, allowed)
     return None if place is None else Refusal(2, place)
 

@@ -4,8 +4,8 @@ Reads and writes it as document 01 draws it, its three zones in L9's quarter hou
 from typing import Union
 
 from layout import form_refusal, text_number
-from reading import (FAILED, FIRST_YEAR, LOCKED, Answer, Reading, Refusal, Told,
-                     date_refusal, reading_refusal, second_refusal, time_refusal, weekday)
+from reading import (FAILED, LOCKED, Answer, Reading, Refusal, Told, base_refusal, date_refusal,
+                     digits_of, reading_refusal, second_refusal, time_refusal, weekday, year_of)
 
 LENGTH = 32
 LARGEST_PLACE = 31
@@ -25,20 +25,20 @@ ZONES = {"U": (0, False), " ": (4, False), "S": (8, True)}
 ANNOUNCEMENTS = {"!": (False, True), "A": (True, False), " ": (False, False)}
 
 
-def read(data: bytes) -> Answer:
+def read(base: int, data: bytes) -> Answer:
     """The reading with coasting beside it, or the first refusal.
     For the door alone: clock_string.read is what reads a string."""
-    refusal = form_refusal(data, ALLOWED)
+    refusal = form_refusal(base, data, ALLOWED)
     if refusal is not None:
         return refusal
     offset, summer = ZONES[chr(data[29])]
     leap, change = ANNOUNCEMENTS[chr(data[30])]
     reading = Reading(
-        FIRST_YEAR + text_number(data, 9), text_number(data, 6), text_number(data, 3),
+        year_of(base, text_number(data, 9)), text_number(data, 6), text_number(data, 3),
         text_number(data, 18), text_number(data, 21), text_number(data, 24),
         offset, summer, leap, change, FAILED if data[27] == ord("#") else LOCKED)
     return (time_refusal(reading, PLACES)
-            or date_refusal(reading, text_number(data, PLACES["weekday"], 1), PLACES)
+            or date_refusal(base, reading, text_number(data, PLACES["weekday"], 1), PLACES)
             or second_refusal(reading, PLACES["second"])
             or Told(reading, data[28] == ord("*")))
 
@@ -54,17 +54,17 @@ def key_of(table: dict, value: tuple) -> str:
     return next(letter for letter, meaning in table.items() if meaning == value)
 
 
-def write(reading: Reading, coasting: bool, output: bytearray) -> Union[int, Refusal]:
+def write(base: int, reading: Reading, coasting: bool, output: bytearray) -> Union[int, Refusal]:
     """Writes 32 bytes at the start of the output; a refusal leaves it as it was."""
     if len(output) < LENGTH:
         return Refusal(1)
-    refusal = reading_refusal(reading)
+    refusal = base_refusal(base) or reading_refusal(base, reading)
     if refusal is not None:
         return refusal
     if cannot_carry(reading):
         return Refusal(11)
     text = "\x02D:%02d.%02d.%02d;T:%d;U:%02d.%02d.%02d;%s%s%s%s\x03" % (
-        reading.day, reading.month, reading.year % 100, weekday(reading),
+        reading.day, reading.month, digits_of(reading.year), weekday(reading),
         reading.hour, reading.minute, reading.second,
         "#" if reading.quality == FAILED else " ",
         "*" if coasting else " ",

@@ -1,5 +1,6 @@
 """The two pulse-by-pulse readers, straight from the letter's third demand: each keeps the whole
-stream, and after every pulse looks at its last hundred, or at the marks since the gap before."""
+stream, and after every pulse looks at its last hundred, or at the marks since the gap before. The base
+is given when a reader is started, which any base does; what has the outline is then refused by 19."""
 
 import re
 from typing import Optional
@@ -18,7 +19,8 @@ STRETCH_OUTLINE = re.compile(rb"[\x00\x01]{59,60}")
 class FrameReader:
     """IEEE 1344: what whole-frame reading says of the last hundred pulses."""
 
-    def __init__(self) -> None:
+    def __init__(self, base: int) -> None:
+        self.base = base
         self.stream = bytearray()
 
     def take(self, pulse: int) -> Optional[Answer]:
@@ -27,13 +29,14 @@ class FrameReader:
         start = end - ieee1344.LENGTH
         if start < 0 or FRAME_OUTLINE.fullmatch(self.stream, start, end) is None:
             return None
-        return ieee1344.read(bytes(self.stream[start:end]))
+        return ieee1344.read(self.base, bytes(self.stream[start:end]))
 
 
 class MinuteReader:
     """DCF77: at a gap, what whole-minute reading says of the marks since the gap before."""
 
-    def __init__(self) -> None:
+    def __init__(self, base: int) -> None:
+        self.base = base
         self.stream = bytearray()
 
     def take(self, pulse: int) -> Optional[Answer]:
@@ -44,4 +47,4 @@ class MinuteReader:
         opening = self.stream.rfind(GAP, 0, closing)
         if opening < 0 or STRETCH_OUTLINE.fullmatch(self.stream, opening + 1, closing) is None:
             return None
-        return dcf77.read(bytes(self.stream[opening + 1:]))
+        return dcf77.read(self.base, bytes(self.stream[opening + 1:]))

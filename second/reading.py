@@ -1,15 +1,17 @@
 """The reading (local time, offset, flags), its refusals, its UTC, the leap rule and the stamp.
-The calendar is Python's own datetime; everything else is taken from document 01 as three requests
+The calendar is Python's own datetime; everything else is taken from document 01 as four requests
 amend it. L3: a leap second may close any UTC month. L5: a time, a date, and a quality or head out of
 range have a code each, 15, 16 and 17 where 5 stood, and a reader's refusal gives a field's place.
-L9: the offset counts quarter hours, -48 to +56.
+L9: the offset counts quarter hours, -48 to +56. L12: a year is one of the hundred that start with the
+base, 1990 or 2000, and a stamp before 2000 is negative.
 (L1, L7 and L8 amend nothing here; clock_string.py, bridge.py and telegram.py have them.)"""
 
 from datetime import date, datetime, timedelta
 from typing import List, Mapping, NamedTuple, Optional, Sequence, Union
 
-FIRST_YEAR = 2000
-LAST_YEAR = 2099
+BASES = (1990, 2000)
+HUNDRED = 100
+STAMPED_YEARS = range(1990, 2100)  # of UTC, whichever the base
 LOWEST_OFFSET = -48  # quarter hours, local minus UTC
 HIGHEST_OFFSET = 56
 QUARTER_HOUR = timedelta(minutes=15)
@@ -58,6 +60,26 @@ class Told(NamedTuple):
 Answer = Union[Told, Refusal]
 
 
+def base_refusal(base: int) -> Optional[Refusal]:
+    """Code 19: any base but the two."""
+    return None if base in BASES else Refusal(19)
+
+
+def years_of(base: int) -> range:
+    """The hundred years that start with the base."""
+    return range(base, base + HUNDRED)
+
+
+def year_of(base: int, digits: int) -> int:
+    """The one year of the base's hundred that ends in these two digits."""
+    return base + (digits - base) % HUNDRED
+
+
+def digits_of(year: int) -> int:
+    """The two digits that a year ends in."""
+    return year % HUNDRED
+
+
 def exists(year: int, month: int, day: int) -> bool:
     """Whether the calendar has the date."""
     try:
@@ -73,11 +95,11 @@ def wrong_in_time(hour: int, minute: int, second: int) -> List[str]:
     return [name for name, largest in LARGEST_IN_TIME.items() if not 0 <= said[name] <= largest]
 
 
-def wrong_in_date(year: int, month: int, day: int) -> List[str]:
+def wrong_in_date(base: int, year: int, month: int, day: int) -> List[str]:
     """The fields of a date that are out of range: code 16. Where a month lacks the day, the day is
     wrong; under a wrong month a day is wrong only outside 1..31."""
     wrong = []
-    if not FIRST_YEAR <= year <= LAST_YEAR:
+    if year not in years_of(base):
         wrong.append("year")
     if not 1 <= month <= 12:
         wrong.append("month")
@@ -98,10 +120,10 @@ def time_refusal(reading: Reading, places: Mapping[str, int]) -> Optional[Refusa
     return lowest_refusal(15, wrong, places)
 
 
-def date_refusal(reading: Reading, said_weekday: int,
+def date_refusal(base: int, reading: Reading, said_weekday: int,
                  places: Mapping[str, int]) -> Optional[Refusal]:
     """Codes 16 and 6 of a date and a weekday that were read."""
-    wrong = wrong_in_date(reading.year, reading.month, reading.day)
+    wrong = wrong_in_date(base, reading.year, reading.month, reading.day)
     if not 1 <= said_weekday <= 7:
         wrong.append("weekday")
     if not wrong and said_weekday != weekday(reading):
@@ -109,11 +131,11 @@ def date_refusal(reading: Reading, said_weekday: int,
     return lowest_refusal(16, wrong, places)
 
 
-def fields_refusal(reading: Reading) -> Optional[Refusal]:
+def fields_refusal(base: int, reading: Reading) -> Optional[Refusal]:
     """Codes 15, 16 and 17 of a reading to be written or stamped (the offset has its own code)."""
     if wrong_in_time(reading.hour, reading.minute, reading.second):
         return Refusal(15)
-    if wrong_in_date(reading.year, reading.month, reading.day):
+    if wrong_in_date(base, reading.year, reading.month, reading.day):
         return Refusal(16)
     return None if 0 <= reading.quality <= LARGEST_QUALITY else Refusal(17)
 
@@ -150,9 +172,11 @@ def second_refusal(reading: Reading, place: int = 0) -> Optional[Refusal]:
     return Refusal(9, place) if wrong else None
 
 
-def reading_refusal(reading: Reading) -> Optional[Refusal]:
-    """Codes 15, 16, 17, 8, 9 in that order: what every writer and the stamp ask of a reading."""
-    return fields_refusal(reading) or offset_refusal(reading.offset) or second_refusal(reading)
+def reading_refusal(base: int, reading: Reading) -> Optional[Refusal]:
+    """Codes 15, 16, 17, 8, 9 in that order: what every writer and the stamp ask of a reading, the base
+    being good."""
+    return (fields_refusal(base, reading) or offset_refusal(reading.offset)
+            or second_refusal(reading))
 
 
 def weekday(reading: Reading) -> int:
@@ -164,14 +188,14 @@ def second_of_day(hour: int, minute: int, second: int) -> int:
     return hour * 3600 + minute * 60 + second
 
 
-def stamp(reading: Reading) -> Union[int, Refusal]:
-    """UTC day number times 86401 plus UTC second of the day, or a refusal by 15, 16, 17,
-    8, 9 or 12."""
-    refusal = reading_refusal(reading)
+def stamp(base: int, reading: Reading) -> Union[int, Refusal]:
+    """UTC day number, which is negative before 2000, times 86401 plus UTC second of the day; or a
+    refusal by 19, 15, 16, 17, 8, 9 or 12."""
+    refusal = base_refusal(base) or reading_refusal(base, reading)
     if refusal is not None:
         return refusal
     utc = utc_minute(reading)
-    if not FIRST_YEAR <= utc.year <= LAST_YEAR:
+    if utc.year not in STAMPED_YEARS:
         return Refusal(12)
     days = (utc.date() - DAY_ZERO).days
     return days * STAMPS_PER_DAY + second_of_day(utc.hour, utc.minute, reading.second)

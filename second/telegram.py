@@ -1,12 +1,13 @@
 """The telegram of L8: from our own summer rule, a configured leap second, the UTC minute being sent
-and a head, the DCF77 minute that names the minute after the one being sent."""
+and a head, the DCF77 minute that names the minute after the one being sent. L12: all of its years are of
+the base's hundred."""
 
 from datetime import date, datetime, time, timedelta
 from typing import NamedTuple, Optional, Tuple, Union
 
 import dcf77
-from reading import (FIRST_YEAR, LAST_YEAR, ONE_MINUTE, QUARTER_HOUR, Reading, Refusal, exists,
-                     wrong_in_date, wrong_in_time)
+from reading import (ONE_MINUTE, QUARTER_HOUR, Reading, Refusal, base_refusal, exists, wrong_in_date,
+                     wrong_in_time, years_of)
 
 ONE_HOUR = timedelta(hours=1)
 ONE_DAY = timedelta(days=1)
@@ -76,23 +77,24 @@ def changes(rule: Rule, year: int) -> Tuple[datetime, datetime]:
     return begin, end
 
 
-def ends_month(year: int, month: int, day: int) -> bool:
-    """Whether this is the last day of a month of 2000..2099."""
-    return (FIRST_YEAR <= year <= LAST_YEAR and exists(year, month, day)
+def ends_month(base: int, year: int, month: int, day: int) -> bool:
+    """Whether this is the last day of a month of the base's hundred years."""
+    return (year in years_of(base) and exists(year, month, day)
             and (date(year, month, day) + ONE_DAY).day == 1)
 
 
-def asked_refusal(rule: Rule, leap: LeapDate, sent: Sent, head: int) -> Optional[Refusal]:
-    """Codes 18, 15, 16, 17 and 9 in that order: what is wrong with what was asked."""
+def asked_refusal(base: int, rule: Rule, leap: LeapDate, sent: Sent, head: int) -> Optional[Refusal]:
+    """Codes 18, 15, 16, 17 and 9 in that order: what is wrong with what was asked, the base being
+    good."""
     if not rule_is_good(rule):
         return Refusal(18)
     if wrong_in_time(sent.hour, sent.minute, 0):
         return Refusal(15)
-    if wrong_in_date(sent.year, sent.month, sent.day):
+    if wrong_in_date(base, sent.year, sent.month, sent.day):
         return Refusal(16)
     if not 0 <= head <= dcf77.LARGEST_HEAD:
         return Refusal(17)
-    return None if leap is None or ends_month(*leap) else Refusal(9)
+    return None if leap is None or ends_month(base, *leap) else Refusal(9)
 
 
 def is_in_hour_before(moment: datetime, at: datetime) -> bool:
@@ -116,19 +118,19 @@ def reading_of(named: datetime, rule: Rule, leap: bool, change: bool) -> Reading
                    leap, change, 0)
 
 
-def write(rule: Rule, leap: LeapDate, sent: Sent, head: int,
+def write(base: int, rule: Rule, leap: LeapDate, sent: Sent, head: int,
           output: bytearray) -> Union[int, Refusal]:
     """Writes the telegram that is sent in this minute, as the DCF77 writer writes the named one; a
     refusal leaves the output as it was."""
     if len(output) < dcf77.LENGTH:
         return Refusal(1)
-    refusal = asked_refusal(rule, leap, sent, head)
+    refusal = base_refusal(base) or asked_refusal(base, rule, leap, sent, head)
     if refusal is not None:
         return refusal
     at = datetime(*sent)
     named = at + ONE_MINUTE
     change = any(is_in_hour_before(moment, at) for moment in changes(rule, at.year))
     reading = reading_of(named, rule, leap_is_announced(leap, at), change)
-    if not all(FIRST_YEAR <= year <= LAST_YEAR for year in (named.year, reading.year)):
+    if not all(year in years_of(base) for year in (named.year, reading.year)):
         return Refusal(12)
-    return dcf77.write(reading, head, output)
+    return dcf77.write(base, reading, head, output)

@@ -59,12 +59,12 @@ static void put_time(const char *first, char between, const struct reading *r)
 }
 
 /* Only an accepted Uni Erlangen string has a position part. */
-static void put_string(const uint8_t *s, size_t length)
+static void put_string(unsigned base, const uint8_t *s, size_t length)
 {
     enum kind kind = MEINBERG;
     struct reading r;
     bool coasting;
-    struct answer a = string_read(s, length, &kind, &r, &coasting);
+    struct answer a = string_read(base, s, length, &kind, &r, &coasting);
     if (a.code)
         put_refusal(' ', a);
     else {
@@ -78,11 +78,11 @@ static void put_string(const uint8_t *s, size_t length)
         put("-");
 }
 
-static void put_pulses(uint8_t op, const uint8_t *s, size_t length)
+static void put_pulses(uint8_t op, unsigned base, const uint8_t *s, size_t length)
 {
     struct reading r;
     uint16_t head;
-    struct answer a = op == 3 ? frame_read(s, length, &r) : minute_read(s, length, &r, &head);
+    struct answer a = op == 3 ? frame_read(base, s, length, &r) : minute_read(base, s, length, &r, &head);
     if (a.code)
         put_refusal(' ', a);
     else
@@ -103,39 +103,39 @@ static void put_written(struct answer a, const uint8_t *lent, size_t room)
     put_hex(lent, room);
 }
 
-static void put_write(uint8_t op, const uint8_t *p, size_t length)
+static void put_write(uint8_t op, unsigned base, const uint8_t *p, size_t length)
 {
     uint8_t lent[LENT];
     struct reading r = reading_in(p);
     uint16_t beside = beside_in(p);
     size_t room = p[14];
     memset(lent, 0xA5, sizeof lent);
-    struct answer a = op == 5 ? meinberg_write(&r, beside != 0, lent, room)
-        : op == 6 ? erlangen_write(&r, beside != 0, p + WRITER_LENGTH, length - WRITER_LENGTH, lent, room)
-        : op == 7 ? frame_write(&r, lent, room) : minute_write(&r, beside, lent, room);
+    struct answer a = op == 5 ? meinberg_write(base, &r, beside != 0, lent, room)
+        : op == 6 ? erlangen_write(base, &r, p + WRITER_LENGTH, length - WRITER_LENGTH, lent, room, beside != 0)
+        : op == 7 ? frame_write(base, &r, lent, room) : minute_write(base, &r, beside, lent, room);
     put_written(a, lent, room);
 }
 
-static void put_telegram(const uint8_t *p)
+static void put_telegram(unsigned base, const uint8_t *p)
 {
     uint8_t lent[LENT];
     size_t room = telegram_room_in(p);
     memset(lent, 0xA5, sizeof lent);
-    put_written(telegram_in(p, lent, room), lent, room);
+    put_written(telegram_in(base, p, lent, room), lent, room);
 }
 
-static void put_bridged(const uint8_t *p, size_t length)
+static void put_bridged(unsigned base, const uint8_t *p, size_t length)
 {
     uint8_t lent[LENT];
     memset(lent, 0xA5, sizeof lent);
-    put_written(bridge(p + 1, length - 1, lent, p[0]), lent, p[0]);
+    put_written(bridge(base, p + 1, length - 1, lent, p[0]), lent, p[0]);
 }
 
-static void put_bridged_with(const uint8_t *p, size_t length)
+static void put_bridged_with(unsigned base, const uint8_t *p, size_t length)
 {
     uint8_t lent[LENT];
     memset(lent, 0xA5, sizeof lent);
-    put_written(bridge_with(p + 2, length - 2, p[1], lent, p[0]), lent, p[0]);
+    put_written(bridge_with(base, p + 2, length - 2, p[1], lent, p[0]), lent, p[0]);
 }
 
 static void put_said(size_t at, struct answer a, const struct reading *r)
@@ -148,26 +148,26 @@ static void put_said(size_t at, struct answer a, const struct reading *r)
         put_time("time", ',', r);
 }
 
-static void put_frames(const uint8_t *pulses, size_t count)
+static void put_frames(unsigned base, const uint8_t *pulses, size_t count)
 {
     struct frame_reader f;
     struct answer a;
     struct reading r;
     put("said");
-    frame_reader_start(&f);
+    frame_reader_start(base, &f);
     for (size_t i = 0; i < count; i++)
         if (frame_reader_take(&f, pulses[i], &a, &r))
             put_said(i + 1, a, &r);
 }
 
-static void put_minutes(const uint8_t *symbols, size_t count)
+static void put_minutes(unsigned base, const uint8_t *symbols, size_t count)
 {
     struct minute_reader m;
     struct answer a;
     struct reading r;
     uint16_t head;
     put("said");
-    minute_reader_start(&m);
+    minute_reader_start(base, &m);
     for (size_t i = 0; i < count; i++)
         if (minute_reader_take(&m, symbols[i], &a, &r, &head)) {
             put_said(i + 1, a, &r);
@@ -176,24 +176,24 @@ static void put_minutes(const uint8_t *symbols, size_t count)
         }
 }
 
-static void put_answer(uint8_t op, const uint8_t *payload, size_t length)
+static void put_answer(uint8_t op, unsigned base, const uint8_t *payload, size_t length)
 {
     if (op == 1)
-        put_string(payload, length);
+        put_string(base, payload, length);
     else if (op == 3 || op == 4)
-        put_pulses(op, payload, length);
+        put_pulses(op, base, payload, length);
     else if (op >= 5 && op <= 8 && length >= WRITER_LENGTH)
-        put_write(op, payload, length);
+        put_write(op, base, payload, length);
     else if (op == 10 && length >= 1)
-        put_bridged(payload, length);
+        put_bridged(base, payload, length);
     else if (op == 11)
-        put_frames(payload, length);
+        put_frames(base, payload, length);
     else if (op == 12)
-        put_minutes(payload, length);
+        put_minutes(base, payload, length);
     else if (op == 15 && length >= TELEGRAM_LENGTH)
-        put_telegram(payload);
+        put_telegram(base, payload);
     else if (op == 16 && length >= 2 && (payload[1] == COASTING_WORSE || payload[1] == COASTING_DROPPED))
-        put_bridged_with(payload, length);
+        put_bridged_with(base, payload, length);
     else
         put("bad");
 }
@@ -201,13 +201,13 @@ static void put_answer(uint8_t op, const uint8_t *payload, size_t length)
 int main(void)
 {
     static uint8_t payload[LARGEST];
-    uint8_t head[3];
-    while (read_full(head, 3) == 3) {
-        size_t length = head[1] + 256u * head[2];
+    uint8_t head[5];
+    while (read_full(head, 5) == 5) {
+        size_t length = number_at(head + 3);
         if (read_full(payload, length) < length)
             break;
         end = 0;
-        put_answer(head[0], payload, length);
+        put_answer(head[0], number_at(head + 1), payload, length);
         line[end++] = '\n';
         write(1, line, end);
     }

@@ -37,12 +37,12 @@ static inline struct reading reading_in(const uint8_t *p)
 static inline uint16_t number_at(const uint8_t *p) { return (uint16_t)(p[0] + 256 * p[1]); }
 
 /* A telegram of a record of TELEGRAM_LENGTH bytes, written to what is lent. */
-static inline struct answer telegram_in(const uint8_t *p, uint8_t *lent, size_t room)
+static inline struct answer telegram_in(unsigned base, const uint8_t *p, uint8_t *lent, size_t room)
 {
     const struct summer_rule rule = {{p[0], p[1], p[2]}, {p[3], p[4], p[5]}};
     const struct sent_minute sent = {number_at(p + 6), p[8], p[9], p[10], p[11]};
     const struct leap_second leap = {p[12] != 0, number_at(p + 13), p[15], p[16]};
-    return telegram_write(&rule, &leap, &sent, number_at(p + 17), lent, room);
+    return telegram_write(base, &rule, &leap, &sent, lent, room, number_at(p + 17));
 }
 
 static inline size_t telegram_room_in(const uint8_t *p) { return p[19]; }

@@ -51,14 +51,14 @@ static bool said_offset(const uint8_t *s, int8_t *offset)
 }
 
 /* For the door alone. */
-struct answer erlangen_read(const uint8_t *s, struct reading *r, bool *coasting)
+struct answer erlangen_read(unsigned base, const uint8_t *s, struct reading *r, bool *coasting)
 {
     size_t bad = first_bad_place(s);
     if (bad < ERLANGEN_LENGTH)
         return refused_at(WRONG_BYTE, bad);
     r->day = two_digits(s + 1);
     r->month = two_digits(s + 4);
-    r->year = 2000 + two_digits(s + 7);
+    r->year = (uint16_t)year_of(base, two_digits(s + 7));
     r->hour = two_digits(s + 14);
     r->minute = two_digits(s + 17);
     r->second = two_digits(s + 20);
@@ -83,7 +83,7 @@ static void put_text(uint8_t *out, const struct reading *r, bool coasting)
     memcpy(out, date_and_time, SIGN);
     put_two_digits(out + 1, r->day);
     put_two_digits(out + 4, r->month);
-    put_two_digits(out + 7, r->year - 2000u);
+    put_two_digits(out + 7, year_digits(r->year));
     out[11] = (uint8_t)('0' + weekday(r->year, r->month, r->day));
     put_two_digits(out + 14, r->hour);
     put_two_digits(out + 17, r->minute);
@@ -103,15 +103,17 @@ static void put_text(uint8_t *out, const struct reading *r, bool coasting)
     out[40] = ' ';
 }
 
-struct answer erlangen_write(const struct reading *r, bool coasting, const uint8_t *position, size_t position_length,
-                             uint8_t *out, size_t room)
+struct answer erlangen_write(unsigned base, const struct reading *r, const uint8_t *position, size_t position_length,
+                             uint8_t *out, size_t room, bool coasting)
 {
     if (room < ERLANGEN_LENGTH || position_length != POSITION_LENGTH)
         return refused(WRONG_LENGTH);
+    if (RARELY(!base_is_good(base)))
+        return refused(WRONG_BASE);
     for (size_t i = 0; i < POSITION_LENGTH; i++)
         if (!is_printable(position[i]))
             return refused_at(WRONG_BYTE, i);
-    uint8_t code = reading_code(r, 0);
+    uint8_t code = reading_code(base, r, 0);
     if (code)
         return refused(code);
     if (r->quality != 0 && r->quality != 15)

@@ -55,22 +55,24 @@ static bool set_date(struct reading *r, unsigned day)
 }
 
 /* Everything but the date and the offset. */
-static void set_fields(struct reading *r, const uint8_t *s)
+static void set_fields(unsigned base, struct reading *r, const uint8_t *s)
 {
     r->second = (uint8_t)(bits(s + 1, 4) + 10 * bits(s + 6, 3));
     r->minute = (uint8_t)(bits(s + 10, 4) + 10 * bits(s + 15, 3));
     r->hour = (uint8_t)(bits(s + 20, 4) + 10 * bits(s + 25, 2));
-    r->year = (uint16_t)(2000 + bits(s + 50, 4) + 10 * bits(s + 55, 4));
+    r->year = (uint16_t)year_of(base, bits(s + 50, 4) + 10 * bits(s + 55, 4));
     r->leap = s[60];
     r->change = s[62];
     r->summer = s[63];
     r->quality = (uint8_t)bits(s + 71, 4);
 }
 
-struct answer frame_read(const uint8_t *s, size_t length, struct reading *r)
+struct answer frame_read(unsigned base, const uint8_t *s, size_t length, struct reading *r)
 {
     if (length != FRAME_LENGTH)
         return refused(WRONG_LENGTH);
+    if (RARELY(!base_is_good(base)))
+        return refused(WRONG_BASE);
     size_t bad = first_bad_place(s);
     if (bad < FRAME_LENGTH)
         return refused_at(WRONG_BYTE, bad);
@@ -79,7 +81,7 @@ struct answer frame_read(const uint8_t *s, size_t length, struct reading *r)
         return refused_at(WRONG_DIGIT, over);
     if (is_odd(s, 1, PARITY))
         return refused_at(WRONG_PARITY, PARITY);
-    set_fields(r, s);
+    set_fields(base, r, s);
     unsigned day = bits(s + 30, 4) + 10 * bits(s + 35, 4) + 100 * bits(s + 40, 2);
     if (!time_is_good(r))
         return refused_at(WRONG_TIME, r->second > 60 ? SECOND : r->minute > 59 ? MINUTE : HOUR);
@@ -101,7 +103,7 @@ struct answer frame_read(const uint8_t *s, size_t length, struct reading *r)
 
 static void put_date(uint8_t *out, const struct reading *r)
 {
-    unsigned day = day_of_year(r->year, r->month, r->day), year = r->year - 2000u;
+    unsigned day = day_of_year(r->year, r->month, r->day), year = year_digits(r->year);
     put_bits(out + 30, 4, day % 10);
     put_bits(out + 35, 4, day / 10 % 10);
     put_bits(out + 40, 2, day / 100);
@@ -122,11 +124,13 @@ static void put_time(uint8_t *out, const struct reading *r)
     put_bits(out + 90, 8, second_of_day >> 9);
 }
 
-struct answer frame_write(const struct reading *r, uint8_t *out, size_t room)
+struct answer frame_write(unsigned base, const struct reading *r, uint8_t *out, size_t room)
 {
     if (room < FRAME_LENGTH)
         return refused(WRONG_LENGTH);
-    uint8_t code = reading_code(r, 0);
+    if (RARELY(!base_is_good(base)))
+        return refused(WRONG_BASE);
+    uint8_t code = reading_code(base, r, 0);
     if (code)
         return refused(code);
     if (r->offset % QUARTERS_PER_HALF != 0)

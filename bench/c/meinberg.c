@@ -23,14 +23,14 @@ static size_t first_bad_place(const uint8_t *s)
 }
 
 /* For the door alone. */
-struct answer meinberg_read(const uint8_t *s, struct reading *r, bool *coasting)
+struct answer meinberg_read(unsigned base, const uint8_t *s, struct reading *r, bool *coasting)
 {
     size_t bad = first_bad_place(s);
     if (bad < MEINBERG_LENGTH)
         return refused_at(WRONG_BYTE, bad);
     r->day = two_digits(s + 3);
     r->month = two_digits(s + 6);
-    r->year = 2000 + two_digits(s + 9);
+    r->year = (uint16_t)year_of(base, two_digits(s + 9));
     r->hour = two_digits(s + 18);
     r->minute = two_digits(s + 21);
     r->second = two_digits(s + 24);
@@ -54,11 +54,13 @@ static bool is_carried(const struct reading *r)
     return zone && !(r->leap && r->change) && (r->quality == 0 || r->quality == 15);
 }
 
-struct answer meinberg_write(const struct reading *r, bool coasting, uint8_t *out, size_t room)
+struct answer meinberg_write(unsigned base, const struct reading *r, bool coasting, uint8_t *out, size_t room)
 {
     if (room < MEINBERG_LENGTH)
         return refused(WRONG_LENGTH);
-    uint8_t code = reading_code(r, 0);
+    if (RARELY(!base_is_good(base)))
+        return refused(WRONG_BASE);
+    uint8_t code = reading_code(base, r, 0);
     if (code)
         return refused(code);
     if (!is_carried(r))
@@ -66,7 +68,7 @@ struct answer meinberg_write(const struct reading *r, bool coasting, uint8_t *ou
     memcpy(out, picture, LETTERS);
     put_two_digits(out + 3, r->day);
     put_two_digits(out + 6, r->month);
-    put_two_digits(out + 9, r->year - 2000u);
+    put_two_digits(out + 9, year_digits(r->year));
     out[14] = (uint8_t)('0' + weekday(r->year, r->month, r->day));
     put_two_digits(out + 18, r->hour);
     put_two_digits(out + 21, r->minute);

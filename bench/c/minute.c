@@ -36,13 +36,13 @@ static size_t wrong_parity(const uint8_t *s)
     return is_odd(s, 21, 28) ? 28 : is_odd(s, 29, 35) ? 35 : is_odd(s, 36, 58) ? 58 : 0;
 }
 
-static void set_fields(struct reading *r, const uint8_t *s)
+static void set_fields(unsigned base, struct reading *r, const uint8_t *s)
 {
     r->minute = (uint8_t)(bits(s + 21, 4) + 10 * bits(s + 25, 3));
     r->hour = (uint8_t)(bits(s + 29, 4) + 10 * bits(s + 33, 2));
     r->day = (uint8_t)(bits(s + 36, 4) + 10 * bits(s + 40, 2));
     r->month = (uint8_t)(bits(s + 45, 4) + 10 * bits(s + 49, 1));
-    r->year = (uint16_t)(2000 + bits(s + 50, 4) + 10 * bits(s + 54, 4));
+    r->year = (uint16_t)year_of(base, bits(s + 50, 4) + 10 * bits(s + 54, 4));
     r->second = 0;
     r->quality = 0;
     r->change = s[16];
@@ -71,10 +71,12 @@ static struct answer date_and_time_answer(const struct reading *r, unsigned said
 
 static bool is_long(const struct reading *r) { return r->leap && after_leap_minute(r); }
 
-struct answer minute_read(const uint8_t *s, size_t length, struct reading *r, uint16_t *head)
+struct answer minute_read(unsigned base, const uint8_t *s, size_t length, struct reading *r, uint16_t *head)
 {
     if (length != MINUTE_LENGTH && length != LONG_MINUTE_LENGTH)
         return refused(WRONG_LENGTH);
+    if (RARELY(!base_is_good(base)))
+        return refused(WRONG_BASE);
     size_t bad = first_bad_place(s, length);
     if (bad < length)
         return refused_at(WRONG_BYTE, bad);
@@ -84,7 +86,7 @@ struct answer minute_read(const uint8_t *s, size_t length, struct reading *r, ui
     size_t parity = wrong_parity(s);
     if (parity)
         return refused_at(WRONG_PARITY, parity);
-    set_fields(r, s);
+    set_fields(base, r, s);
     struct answer fault = date_and_time_answer(r, bits(s + WEEKDAY, 3));
     if (fault.code)
         return fault;
@@ -103,7 +105,7 @@ static bool is_carried(const struct reading *r)
 
 static void put_marks(uint8_t *out, const struct reading *r, uint16_t head)
 {
-    unsigned year = r->year - 2000u;
+    unsigned year = year_digits(r->year);
     out[0] = 0;
     put_bits(out + 1, 15, head);
     out[16] = r->change;
@@ -127,11 +129,13 @@ static void put_marks(uint8_t *out, const struct reading *r, uint16_t head)
     out[58] = is_odd(out, 36, 57);
 }
 
-struct answer minute_write(const struct reading *r, uint16_t head, uint8_t *out, size_t room)
+struct answer minute_write(unsigned base, const struct reading *r, uint16_t head, uint8_t *out, size_t room)
 {
     if (room < MINUTE_LENGTH)
         return refused(WRONG_LENGTH);
-    uint8_t code = reading_code(r, head);
+    if (RARELY(!base_is_good(base)))
+        return refused(WRONG_BASE);
+    uint8_t code = reading_code(base, r, head);
     if (code)
         return refused(code);
     if (!is_carried(r))

@@ -8,8 +8,11 @@
 enum {
     WRONG_LENGTH = 1, WRONG_BYTE, WRONG_DIGIT, WRONG_PARITY, WRONG_WEEKDAY = 6, WRONG_SECOND_OF_DAY, WRONG_OFFSET,
     WRONG_SECOND, DELETED, NOT_CARRIED, OUTSIDE_YEARS, CUT_SHORT, UNKNOWN_KIND, WRONG_TIME, WRONG_DATE,
-    WRONG_QUALITY /* or the head */, WRONG_RULE
+    WRONG_QUALITY /* or the head */, WRONG_RULE, WRONG_BASE
 };
+
+/* Where the hundred years of two year digits start: one of these, and any other number is refused. */
+enum { EARLY_BASE = 1990, USUAL_BASE = 2000 };
 
 /* What an offset counts, and how far it goes to either side of UTC. */
 enum { MINUTES_PER_QUARTER = 15, QUARTERS_PER_HOUR = 4, LOWEST_OFFSET = -48, HIGHEST_OFFSET = 56 };
@@ -34,6 +37,24 @@ static inline struct answer refused(uint8_t code) { return (struct answer){code,
 static inline struct answer refused_at(uint8_t code, size_t place) { return (struct answer){code, place}; }
 static inline struct answer accepted(size_t length) { return (struct answer){0, length}; }
 
+/* Each refusal makes what comes after it look half as likely, and with one more of them clang does not inline a reader's last
+   functions. So the one for a base is said to be rare. */
+#define RARELY(condition) __builtin_expect(condition, 0)
+
+static inline bool base_is_good(unsigned base) { return base == EARLY_BASE || base == USUAL_BASE; }
+
+/* The one year of the base's hundred that has these last two digits. */
+static inline unsigned year_of(unsigned base, unsigned digits)
+{
+    unsigned year = 2000 + digits;
+    return year <= base + 99u ? year : year - 100;
+}
+
+static inline unsigned year_digits(unsigned year) { return year % 100; }
+
+/* Whether a year is of the base's hundred. */
+static inline bool year_is_good(unsigned base, unsigned year) { return year >= base && year <= base + 99u; }
+
 static inline bool is_leap(unsigned year) { return year % 4 == 0 && (year % 100 != 0 || year % 400 == 0); }
 
 static inline unsigned month_length(unsigned year, unsigned month)
@@ -48,17 +69,26 @@ static inline unsigned day_of_year(unsigned year, unsigned month, unsigned day)
     return before[month - 1] + day + (month > 2 && is_leap(year));
 }
 
-/* The days since 1 January 2000, for the years 2000 to 2099. */
-static inline unsigned day_number(unsigned year, unsigned month, unsigned day)
+/* The days since 1 January 1988, for the years 1988 to 2099: the first is a leap year, and so is every fourth after it. */
+static inline unsigned days_since_1988(unsigned year, unsigned month, unsigned day)
 {
-    unsigned years = year - 2000;
+    unsigned years = year - 1988;
     return years * 365 + (years + 3) / 4 + day_of_year(year, month, day) - 1;
 }
 
-/* 1 is Monday; 1 January 2000 is a Saturday. */
+/* 1 is Monday; 1 January 1988 is a Friday. */
 static inline unsigned weekday(unsigned year, unsigned month, unsigned day)
 {
-    return (day_number(year, month, day) + 5) % 7 + 1;
+    return (days_since_1988(year, month, day) + 4) % 7 + 1;
+}
+
+/* 1 January 2000 is day 0; the first day of 1990 and the last of 2099 are the first and the last that have a stamp. */
+enum { DAY_ZERO_SINCE_1988 = 4383, FIRST_STAMPED_DAY = -3652, LAST_STAMPED_DAY = 36524 };
+
+/* The days since 1 January 2000, negative before it, of the same years. */
+static inline int day_number(unsigned year, unsigned month, unsigned day)
+{
+    return (int)days_since_1988(year, month, day) - DAY_ZERO_SINCE_1988;
 }
 
 static inline bool month_is_good(const struct reading *r) { return r->month >= 1 && r->month <= 12; }
@@ -69,9 +99,9 @@ static inline bool day_is_good(const struct reading *r)
     return r->day >= 1 && r->day <= (month_is_good(r) ? month_length(r->year, r->month) : 31);
 }
 
-static inline bool date_is_good(const struct reading *r)
+static inline bool date_is_good(unsigned base, const struct reading *r)
 {
-    return r->year >= 2000 && r->year <= 2099 && month_is_good(r) && day_is_good(r);
+    return year_is_good(base, r->year) && month_is_good(r) && day_is_good(r);
 }
 
 static inline bool time_is_good(const struct reading *r) { return r->hour <= 23 && r->minute <= 59 && r->second <= 60; }
@@ -123,25 +153,25 @@ static inline bool after_leap_minute(const struct reading *r)
 
 static inline bool second_is_good(const struct reading *r) { return r->second != 60 || in_leap_minute(r); }
 
-/* The stamp of a reading that its reader accepted; false where its UTC day lies outside 2000 to 2099. */
-static inline bool stamp_of(const struct reading *r, uint64_t *stamp)
+/* The stamp of a reading that its reader accepted, whichever the base; false where its UTC day lies outside 1990 to 2099. */
+static inline bool stamp_of(const struct reading *r, int64_t *stamp)
 {
     int minute = utc_minutes(r);
-    int day = (int)day_number(r->year, r->month, r->day) + (minute < 0 ? -1 : minute >= 1440 ? 1 : 0);
-    if (day < 0 || day > 36524)
+    int day = day_number(r->year, r->month, r->day) + (minute < 0 ? -1 : minute >= 1440 ? 1 : 0);
+    if (day < FIRST_STAMPED_DAY || day > LAST_STAMPED_DAY)
         return false;
     minute += minute < 0 ? 1440 : minute >= 1440 ? -1440 : 0;
-    *stamp = (uint64_t)day * 86401 + (uint64_t)minute * 60 + r->second;
+    *stamp = (int64_t)day * 86401 + minute * 60 + r->second;
     return true;
 }
 
-/* What every writer asks of a reading, and of a head, 0 where the format has none: 0, or the first of the codes 15, 16, 17,
-   8 and 9. */
-static inline uint8_t reading_code(const struct reading *r, uint16_t head)
+/* What every writer asks of a reading, under a good base, and of a head, 0 where the format has none: 0, or the first of the
+   codes 15, 16, 17, 8 and 9. */
+static inline uint8_t reading_code(unsigned base, const struct reading *r, uint16_t head)
 {
     if (!time_is_good(r))
         return WRONG_TIME;
-    if (!date_is_good(r))
+    if (!date_is_good(base, r))
         return WRONG_DATE;
     if (r->quality > 15 || head > 32767)
         return WRONG_QUALITY;

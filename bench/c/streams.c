@@ -3,10 +3,11 @@
 
 enum { MARK = 2, GAP = 2, NO_PULSE = 255 };
 
-void frame_reader_start(struct frame_reader *f)
+void frame_reader_start(unsigned base, struct frame_reader *f)
 {
     memset(f->last, NO_PULSE, sizeof f->last);
     f->oldest = 0;
+    f->base = base;
 }
 
 bool frame_reader_take(struct frame_reader *f, uint8_t pulse, struct answer *a, struct reading *r)
@@ -21,13 +22,14 @@ bool frame_reader_take(struct frame_reader *f, uint8_t pulse, struct answer *a, 
     memcpy(window + FRAME_LENGTH - f->oldest, f->last, f->oldest);
     if (!frame_is_outlined(window))
         return false;
-    *a = frame_read(window, FRAME_LENGTH, r);
+    *a = frame_read(f->base, window, FRAME_LENGTH, r);
     return true;
 }
 
-void minute_reader_start(struct minute_reader *m)
+void minute_reader_start(unsigned base, struct minute_reader *m)
 {
     m->count = LONG_MINUTE_LENGTH;
+    m->base = base;
 }
 
 bool minute_reader_take(struct minute_reader *m, uint8_t symbol, struct answer *a, struct reading *r, uint16_t *head)
@@ -44,6 +46,6 @@ bool minute_reader_take(struct minute_reader *m, uint8_t symbol, struct answer *
     if (count != MINUTE_LENGTH - 1 && count != LONG_MINUTE_LENGTH - 1)
         return false;
     m->marks[count] = GAP;
-    *a = minute_read(m->marks, count + 1, r, head);
+    *a = minute_read(m->base, m->marks, count + 1, r, head);
     return true;
 }

@@ -2,7 +2,7 @@
 #include "formats.h"
 
 /* A common year has no 29 February, which no set date may be. */
-enum { COMMON_YEAR = 2001, LAST_YEAR = 2099, LARGEST_HEAD = 32767, LATEST_AFTER = 6 };
+enum { COMMON_YEAR = 2001, LARGEST_HEAD = 32767, LATEST_AFTER = 6 };
 
 static bool set_day_is_good(const struct set_day *s)
 {
@@ -18,9 +18,9 @@ static bool rule_is_good(const struct summer_rule *rule)
         && day_of_year(COMMON_YEAR, begin->month, begin->day) + LATEST_AFTER < day_of_year(COMMON_YEAR, end->month, end->day);
 }
 
-static bool leap_is_good(const struct leap_second *leap)
+static bool leap_is_good(unsigned base, const struct leap_second *leap)
 {
-    return !leap->is_set || (leap->year >= 2000 && leap->year <= LAST_YEAR && leap->month >= 1 && leap->month <= 12
+    return !leap->is_set || (year_is_good(base, leap->year) && leap->month >= 1 && leap->month <= 12
                              && leap->day == month_length(leap->year, leap->month));
 }
 
@@ -79,27 +79,29 @@ static void go_to_zone(struct reading *r)
     }
 }
 
-struct answer telegram_write(const struct summer_rule *rule, const struct leap_second *leap, const struct sent_minute *sent,
-                             uint16_t head, uint8_t *out, size_t room)
+struct answer telegram_write(unsigned base, const struct summer_rule *rule, const struct leap_second *leap,
+                             const struct sent_minute *sent, uint8_t *out, size_t room, uint16_t head)
 {
     if (room < MINUTE_LENGTH)
         return refused(WRONG_LENGTH);
+    if (RARELY(!base_is_good(base)))
+        return refused(WRONG_BASE);
     if (!rule_is_good(rule))
         return refused(WRONG_RULE);
     struct reading r = {.year = sent->year, .month = sent->month, .day = sent->day, .hour = sent->hour, .minute = sent->minute};
     if (!time_is_good(&r))
         return refused(WRONG_TIME);
-    if (!date_is_good(&r))
+    if (!date_is_good(base, &r))
         return refused(WRONG_DATE);
     if (head > LARGEST_HEAD)
         return refused(WRONG_QUALITY);
-    if (!leap_is_good(leap))
+    if (!leap_is_good(base, leap))
         return refused(WRONG_SECOND);
     add_minute(&r);
-    if (r.year > LAST_YEAR)
+    if (!year_is_good(base, r.year))
         return refused(OUTSIDE_YEARS);
     set_summer(&r, rule, sent);
     r.leap = is_last_hour_of(leap, sent);
     go_to_zone(&r);
-    return r.year > LAST_YEAR ? refused(OUTSIDE_YEARS) : minute_write(&r, head, out, room);
+    return year_is_good(base, r.year) ? minute_write(base, &r, head, out, room) : refused(OUTSIDE_YEARS);
 }

@@ -59,7 +59,7 @@ accepted-checked base kind s r e = go (eqb kind 1 || eqb kind 2) (eqb kind 3) e
 
 -- "An accepted body whose stamp is refused is listed as `no 12 0`."
 pub stamped-or-12 : (base kind : ℕ) (s : List ℕ) (r : Reading) → readBody base kind s ≡ Time r
-    → (stampingOf base (Accepted kind r) ≡ Stamped kind (stampNumber (utcOf r) (r .second)))
+    → (stampingOf base (Accepted kind r) ≡ Stamped kind (record { 0 = stampNumber (utcOf r) (r .second) }))
     ⊎ (stampingOf base (Accepted kind r) ≡ Unstamped kind (number OutsideYears))
 stamped-or-12 base kind s r e = go (hasStamp (utcOf r .date .year)) refl
   where
@@ -67,7 +67,7 @@ stamped-or-12 base kind s r e = go (hasStamp (utcOf r .date .year)) refl
     checked = accepted-checked base kind s r e
 
     go : (b : Bool) → hasStamp (utcOf r .date .year) ≡ b
-        → (stampingOf base (Accepted kind r) ≡ Stamped kind (stampNumber (utcOf r) (r .second)))
+        → (stampingOf base (Accepted kind r) ≡ Stamped kind (record { 0 = stampNumber (utcOf r) (r .second) }))
         ⊎ (stampingOf base (Accepted kind r) ≡ Unstamped kind (number OutsideYears))
     go true h = inl (rw (is-stamp base r (stampNumber (utcOf r) (r .second)) (record { checked = checked; year = h; value = refl })))
     go false h = inr (rw (refused-by-12 base r checked h))

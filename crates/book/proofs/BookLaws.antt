@@ -209,8 +209,8 @@ pub records-rise : (base : ℕ) (b : List ℕ) (at : ℕ) → Rising (length b) 
 unfolding recordsFrom
 records-rise base b at = rise-within base b (length b - at) at
 
--- a walk that is turned until it is over finds the records of its book, one a turn
-pub turn-finds : (base : ℕ) (w : Walk) → w .at < length (now (w .book))
-    → recordsFrom base (now (w .book)) (w .at)
-    ≡ record { place = w .at; found = turned base w .found } ∷ recordsFrom base (now (w .book)) (turned base w .walk .at)
-turn-finds base w h = records-step base (now (w .book)) (w .at) h
+-- a walk that is turned until it is over finds the records of its book, one a turn, all with the base that it was started with
+pub turn-finds : (w : Walk) → w .at < length (now (w .book))
+    → recordsFrom (w .base) (now (w .book)) (w .at)
+    ≡ record { place = w .at; found = turned w .found } ∷ recordsFrom (turned w .walk .base) (now (w .book)) (turned w .walk .at)
+turn-finds w h = records-step (w .base) (now (w .book)) (w .at) h

@@ -10,6 +10,7 @@ use Rattle.laws.specs.Tests.{among}
 use Rattle.laws.proofs.Bools.{never}
 use Rattle.reading.specs.declared.Reading.{Reading}
 use Rattle.reading.specs.declared.Refusal.{Refusal}
+use Rattle.reading.specs.declared.Since2000.{Since2000}
 use Rattle.reading.specs.declared.Fault.the-variants.{OutsideYears, CutShort, UnknownKind}
 use Rattle.reading.specs.Faults.{number}
 use Rattle.reading.specs.Universal.{utcOf}
@@ -133,7 +134,7 @@ over-after-own-listed base b at k x n e own = go (recordAt base b at) refl e
     not-12 d (inl p) = absurd (d .0 p)
     not-12 d (inr p) = absurd (d .1 p)
 
-    no-stamp : (kind m : ℕ) (r : Reading) → stampingOf base (Accepted kind r) ≡ Unstamped k x
+    no-stamp : (kind : ℕ) (m : Since2000) (r : Reading) → stampingOf base (Accepted kind r) ≡ Unstamped k x
         → (stampingOf base (Accepted kind r) ≡ Stamped kind m) ⊎ (stampingOf base (Accepted kind r) ≡ Unstamped kind (number OutsideYears))
         → recordAt base b (turns b (suc n) at) ≡ Over
     no-stamp kind m r f (inl s) = let z : _≡_ {A = ℕ} 0 1 = cc in clash z
@@ -142,5 +143,5 @@ over-after-own-listed base b at k x n e own = go (recordAt base b at) refl e
     go : (found : Record) → recordAt base b at ≡ found → stampingOf base found ≡ Unstamped k x → recordAt base b (turns b (suc n) at) ≡ Over
     go Over p f = let z : _≡_ {A = ℕ} 0 1 = cc in clash z
     go (Accepted kind r) p f =
-        no-stamp kind (stampNumber (utcOf r) (r .second)) r f (stamped-or-12 base kind (bodyAt b at) r (accepted-there base b at kind r p .said))
+        no-stamp kind (record { 0 = stampNumber (utcOf r) (r .second) }) r f (stamped-or-12 base kind (bodyAt b at) r (accepted-there base b at kind r p .said))
     go (Refused kind y) p f = over-after-own base b at k x n (cc) own

@@ -10,7 +10,6 @@ use contract.Lifetimes.{Lfts}
 use contract.Monad.{Fun, fact}
 use denote.Triple.Entry.{Args, Res}
 use denote.Triple.Clauses.{Ended, AtExit, Clauses}
-use Rattle.reading.specs.Years.{base}
 use Rattle.laws.proofs.Coincide.{Coincide}
 use Rattle.book.specs.Walking.{walkOver, turned}
 use Rattle.book.proofs.record_at.Kinds as record-kinds
@@ -55,10 +54,10 @@ Pinned T c =
     × ((x y : Res (T .signature) κs) → said x → said y → x ≡ y))
 
 pub over-one : Pinned over.ended (λ M 𝓤 H A mem run. over.clauses 𝓤 H A mem run)
-over-one κs a = ((λ w. w ≡ walkOver (a .0)), ((λ M 𝓤 H A mem run g r e. refl), λ x y p q. p ∙ sym q))
+over-one κs a = ((λ w. w ≡ walkOver (a .0) (a .1 .0)), ((λ M 𝓤 H A mem run g r e. refl), λ x y p q. p ∙ sym q))
 
 pub turn-one : Pinned turn.ended (λ M 𝓤 H A mem run. turn.clauses 𝓤 H A mem run)
-turn-one κs a = ((λ t. t ≡ turned base (a .0)), ((λ M 𝓤 H A mem run g r e. refl), λ x y p q. p ∙ sym q))
+turn-one κs a = ((λ t. t ≡ turned (a .0)), ((λ M 𝓤 H A mem run g r e. refl), λ x y p q. p ∙ sym q))
 
 -- ---- what the crate's own files call
 

@@ -4,17 +4,18 @@ use mathlib.Core.Bool.{Bool, true, false}
 use mathlib.Core.List.{List, [], _∷_, _++_, map}
 use mathlib.Core.Path.{_≡_, refl}
 use Prim.Native.Nat.{ℕ}
-use lib.IntN.{pos}
+use lib.IntN.{ℤ, pos, negsuc}
 use Rattle.calendar.specs.Calendar.{leapYear, daysIn, daysBefore, yearLength, daysBeforeYear, dayOfYear, dayNumber, weekdayOf, isMonth, lastDay, isDay, isDate, dayBefore, dayAfter, yearAfter, monthUpTo, inYear, monthDay}
 use Rattle.reading.specs.declared.Reading.{Reading}
 use Rattle.reading.specs.declared.Refusal.{Refusal}
+use Rattle.reading.specs.declared.Since2000.{Since2000}
 use Rattle.reading.specs.Faults.{number}
 use Rattle.reading.specs.Offset.{west, east, offsetGood, localOf}
-use Rattle.reading.specs.Years.{base, inHundred, yearOf}
+use Rattle.reading.specs.Years.{usualBase as base, isBase, firstYear, inHundred, yearOf}
 use Rattle.reading.specs.Universal.{utcMinutes, onDay, utcOf}
 use Rattle.reading.specs.Leap.{closesWithLeap, leapMinute, sixtyBad, afterLeap}
-use Rattle.reading.specs.Checks.{timeBad, dateBad, checkedOf, dayBad, monthBad, weekdayWrong}
-use Rattle.reading.specs.Stamps.{hasStamp, stampNumber, stampAt, stampOf}
+use Rattle.reading.specs.Checks.{timeBad, dateBad, checkedOf, dayBad, monthBad, weekdayWrong, soundOf}
+use Rattle.reading.specs.Stamps.{hasStamp, stampNumber, stampAt, stampOf, countOf, countZero}
 use Rattle.wire.specs.Digits.{digit, pair}
 use Rattle.wire.specs.Layout.{packed, exactly, from, either, oneOf, within, beside, allowed, goodPlaces}
 use Rattle.strings.specs.Checks.{weekdayBad, faultOf}
@@ -73,6 +74,9 @@ reading8 = at 2024 2 29 12 34 0 4 false
 
 abbrev pub newYear : Reading
 newYear = at 2017 1 1 1 0 0 4 true
+
+abbrev since : ℤ → Since2000
+since z = record { 0 = z }
 
 abbrev refusal : ℕ → ℕ → Refusal
 refusal code place = record { code = code; place = place }
@@ -179,18 +183,18 @@ unfolding recordsFrom recordAt nextAt bodyLength readBody number
     erlangenLayout wholeUnits unitsOf tooFar erlangenOffsetBad signed erlangenOffset shows weekdaySaid coastingSaid offsetWrong markWrong erlangenReading erlangenFault readErlangen readString
     groupOf weightOf pulseAllowed goodPulses shareOf sumOf sumsOf upTo onesFrom liesWithin onesOf
     framePulses secondIn minuteIn hourIn dayIn digitsIn halvesIn addedIn yearIn monthDayIn frameReading frameDayBad secondOfDayWrong frameOffsetBad isOdd fieldsFault valuesFault frameFault readFrame
-    sharedMarks lastMarks minuteMarks offsetIn zoneOf zoneBad lastOf dueLong isLong tableFor says minuteReading lengthBad digitFault odd parityFault fieldFault ruleFault saidFault readFault readDcf77
+    sharedMarks lastMarks minuteMarks offsetIn zoneOf zoneBad lastOf dueLong isLong tableFor says minuteReading lengthBad digitFault odd parityFault fieldFault ruleFault saidFault readFault readDcf77 firstYear isBase
 worked-books = (refl, refl, refl)
 
--- case 9 is "accepted, its stamp is code 12"
+-- case 9 is "accepted, its stamp is code 12", which by L12 "is now -1801"
 pub worked-stamps :
-    (stampingOf base (Accepted 1 reading2) ≡ Stamped 1 536550209)
-    × (stampingOf base (Accepted 1 reading9) ≡ Unstamped 1 (refusal 12 0))
-    × (stampingOf base (Accepted 2 reading6) ≡ Stamped 2 762530521)
-    × (stampingOf base (Accepted 3 reading6) ≡ Stamped 3 762530521)
-    × (stampingOf base (Accepted 4 reading8) ≡ Stamped 4 762530465)
-    × (stampingOf base (Accepted 5 newYear) ≡ Stamped 5 536550210)
+    (stampingOf base (Accepted 1 reading2) ≡ Stamped 1 (since (pos 536550209)))
+    × (stampingOf base (Accepted 1 reading9) ≡ Stamped 1 (since (negsuc 1800)))
+    × (stampingOf base (Accepted 2 reading6) ≡ Stamped 2 (since (pos 762530521)))
+    × (stampingOf base (Accepted 3 reading6) ≡ Stamped 3 (since (pos 762530521)))
+    × (stampingOf base (Accepted 4 reading8) ≡ Stamped 4 (since (pos 762530465)))
+    × (stampingOf base (Accepted 5 newYear) ≡ Stamped 5 (since (pos 536550210)))
 unfolding stampOf stampAt stampNumber hasStamp checkedOf timeBad dateBad inHundred offsetGood number
     leapYear daysIn daysBefore yearLength daysBeforeYear dayOfYear dayNumber isMonth lastDay isDay isDate dayBefore
-    closesWithLeap leapMinute sixtyBad west east utcMinutes onDay utcOf
+    closesWithLeap leapMinute sixtyBad west east utcMinutes onDay utcOf firstYear isBase soundOf countOf countZero
 worked-stamps = (refl, refl, refl, refl, refl, refl)

@@ -6,10 +6,14 @@ use Rattle.book.specs.declared.Walk.{Walk}
 use Rattle.book.specs.declared.Taken.{Taken}
 use Rattle.book.specs.Book.{recordAt, nextAt}
 
--- a walk over that very book, at its start
-abbrev pub walkOver : RefT (List ℕ) → Walk
-walkOver book = record { book = book; at = 0 }
+-- a walk over that very book, at its start; L12: "a walk takes it once", the base
+abbrev pub walkOver : ℕ → RefT (List ℕ) → Walk
+walkOver base book = record { book = book; at = 0; base = base }
 
 -- the record at the walk's place, and the walk over the same book past it
-abbrev pub turned : ℕ → Walk → Taken
-turned base w = record { walk = record { book = w .book; at = nextAt (now (w .book)) (w .at) }; found = recordAt base (now (w .book)) (w .at) }
+abbrev pub turned : Walk → Taken
+turned w =
+    record {
+      walk = record { book = w .book; at = nextAt (now (w .book)) (w .at); base = w .base };
+      found = recordAt (w .base) (now (w .book)) (w .at);
+    }

@@ -7,7 +7,6 @@ use erlangen::Erlangen;
 use irig::Ieee1344;
 use meinberg::Meinberg;
 ghost use mathlib.Core.Path.{_≡_};
-ghost use Rattle.reading.specs.Years.{base};
 ghost use Rattle.book.specs.Body.{bodyLength, ofString, ofFrame, ofMinute, readBody, recordOf};
 
 // 0 for an unknown kind.
@@ -53,14 +52,14 @@ fn of_minute(answer: dcf77::Answer) -> Said
 }
 
 // Where a kind is unknown no body is read; the definition gives such a body to the last reader.
-pub(crate) fn read_body(kind: u8, body: &[u8]) -> Said
+pub(crate) fn read_body(base: u16, kind: u8, body: &[u8]) -> Said
     ensures { λ r. ⌜ r ≡ readBody base kind (now (body .entry)) ⌝ }
 {
     match kind {
-        1 => of_string(read(body)),
-        2 => of_string(read(body)),
-        3 => of_frame(Ieee1344::read(body)),
-        _ => of_minute(Dcf77::read(body)),
+        1 => of_string(read(base, body)),
+        2 => of_string(read(base, body)),
+        3 => of_frame(Ieee1344::read(base, body)),
+        _ => of_minute(Dcf77::read(base, body)),
     }
 }
 

@@ -4,11 +4,11 @@
 use reading::Fault;
 use reading::Reading;
 use reading::Refusal;
+use reading::Since2000;
 use reading::faults::refusal_of;
 ghost use mathlib.Core.Path.{_≡_};
 ghost use Prim.Native.Nat.{_+_, _≤_};
 ghost use lib.ListN.{length, take, drop};
-ghost use Rattle.reading.specs.Years.{base};
 ghost use Rattle.book.specs.Body.{readBody};
 ghost use Rattle.book.specs.Book.{recordAt, nextAt};
 ghost use Rattle.book.specs.Walking.{walkOver, turned};
@@ -33,20 +33,20 @@ pub enum Record {
 // A record as it is listed: the kind with the stamp of an accepted body, or with the refusal of the body or of its stamp.
 pub enum Stamping {
     Over,
-    Stamped(u8, u64),
+    Stamped(u8, Since2000),
     Unstamped(u8, Refusal),
 }
 
 // A body of n bytes that starts at `start` in the middle of the book.
-fn said_from(book: &[u8], kind: u8, start: usize, n: usize) -> Said
+fn said_from(base: u16, book: &[u8], kind: u8, start: usize, n: usize) -> Said
     requires { ⌜ start + n ≤ length (now book) ⌝ }
     ensures { λ r. ⌜ r ≡ readBody base kind (take n (drop start (now (book .entry)))) ⌝ }
 {
     let end = start + n;
-    body::read_body(kind, &book[start..end])
+    body::read_body(base, kind, &book[start..end])
 }
 
-pub fn record_at(book: &[u8], at: usize) -> Record
+pub fn record_at(base: u16, book: &[u8], at: usize) -> Record
     ensures { λ r. ⌜ r ≡ recordAt base (now (book .entry)) at ⌝ }
 {
     if book.len() <= at {
@@ -62,7 +62,7 @@ pub fn record_at(book: &[u8], at: usize) -> Record
     if book.len() - start < n {
         return Record::Refused(kind, refusal_of(Fault::CutShort));
     }
-    body::record_of(kind, said_from(book, kind, start, n))
+    body::record_of(kind, said_from(base, book, kind, start, n))
 }
 
 // Past the record, also where its body is refused; the book's end where the walk stops.
@@ -83,10 +83,11 @@ pub fn next_at(book: &[u8], at: usize) -> usize
     start + length
 }
 
-// A walk over a lent book.
+// A walk over a lent book, with the base that its readings are read with.
 pub struct Walk<'a> {
     pub book: &'a [u8],
     pub at: usize,
+    pub base: u16,
 }
 
 // What stood at a walk's place, and the walk past it.
@@ -96,22 +97,23 @@ pub struct Taken<'a> {
 }
 
 impl<'a> Walk<'a> {
-    // A walk at the book's start.
-    pub fn over(book: &'a [u8]) -> Self
-        ensures { λ w. ⌜ w ≡ walkOver (book .entry) ⌝ }
+    // A walk at the book's start. Any base is taken here, and one that is none refused with each whole body.
+    pub fn over(base: u16, book: &'a [u8]) -> Self
+        ensures { λ w. ⌜ w ≡ walkOver base (book .entry) ⌝ }
     {
-        Walk { book, at: 0 }
+        Walk { book, at: 0, base }
     }
 
     pub fn turn(self) -> Taken<'a>
-        ensures { λ t. ⌜ t ≡ turned base (self .entry) ⌝ }
+        ensures { λ t. ⌜ t ≡ turned (self .entry) ⌝ }
     {
-        let found = record_at(self.book, self.at);
+        let found = record_at(self.base, self.book, self.at);
         let at = next_at(self.book, self.at);
         Taken {
             walk: Walk {
                 book: self.book,
                 at,
+                base: self.base,
             },
             found,
         }
@@ -119,9 +121,9 @@ impl<'a> Walk<'a> {
 }
 
 // The first record of a book. Who calls it needs no walk.
-pub fn first(book: &[u8]) -> Record
+pub fn first(base: u16, book: &[u8]) -> Record
     ensures { λ r. ⌜ r ≡ recordAt base (now (book .entry)) 0 ⌝ }
 {
-    let taken = Walk::over(book).turn();
+    let taken = Walk::over(base, book).turn();
     taken.found
 }

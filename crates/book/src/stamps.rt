@@ -4,7 +4,6 @@ use super::Stamping;
 use reading::Stamp;
 use reading::stamps::stamp_of;
 ghost use mathlib.Core.Path.{_≡_};
-ghost use Rattle.reading.specs.Years.{base};
 ghost use Rattle.book.specs.Stamps.{withStamp, stampingOf};
 
 fn with_stamp(kind: u8, stamp: Stamp) -> Stamping
@@ -17,12 +16,12 @@ fn with_stamp(kind: u8, stamp: Stamp) -> Stamping
 }
 
 // "An accepted body whose stamp is refused" is refused here, and not before.
-pub fn stamping_of(found: Record) -> Stamping
+pub fn stamping_of(base: u16, found: Record) -> Stamping
     ensures { λ r. ⌜ r ≡ stampingOf base found ⌝ }
 {
     match found {
         Record::Over => Stamping::Over,
-        Record::Accepted(kind, reading) => with_stamp(kind, stamp_of(reading)),
+        Record::Accepted(kind, reading) => with_stamp(kind, stamp_of(base, reading)),
         Record::Refused(kind, refusal) => Stamping::Unstamped(kind, refusal),
     }
 }

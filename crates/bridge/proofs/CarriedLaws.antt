@@ -89,6 +89,7 @@ graded-checked : (base q : ℕ) (r : Reading) → q ≤ 15 → Checked base r �
 unfolding graded
 graded-checked base q r h c =
     record {
+      base-good = c .base-good;
       hour = c .hour;
       minute = c .minute;
       second = c .second;

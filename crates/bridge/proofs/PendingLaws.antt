@@ -9,7 +9,7 @@ use Rattle.laws.proofs.Bools.{both}
 use Rattle.reading.specs.declared.Reading.{Reading}
 use Rattle.reading.specs.Universal.{utcOf}
 use Rattle.reading.specs.Leap.{lastMinute, closesWithLeap, leapMinute, withinMinute, leapWindow, changeWindow}
-use Rattle.reading.specs.Checks.{timeBad, dateBad, checkedOf}
+use Rattle.reading.specs.Checks.{timeBad, dateBad, soundOf, checkedOf}
 use Rattle.bridge.specs.Bridge.{pendingOf}
 
 -- UTC does not look at the announcements
@@ -19,7 +19,7 @@ utc-pending r = refl
 
 -- nor do the checks that every writer shares
 pub pending-checked : (base : ℕ) (r : Reading) → checkedOf base (pendingOf r) ≡ checkedOf base r
-unfolding checkedOf timeBad dateBad pendingOf
+unfolding checkedOf soundOf timeBad dateBad pendingOf
 pending-checked base r = rw (utc-pending r)
 
 -- ---- what is pending

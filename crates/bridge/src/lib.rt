@@ -15,7 +15,6 @@ use strings::Answer;
 ghost use mathlib.Core.Path.{_≡_};
 ghost use mathlib.Core.Bool.{_&&_};
 ghost use lib.ListN.{length};
-ghost use Rattle.reading.specs.Years.{base};
 ghost use Rattle.reading.specs.Universal.{utcOf};
 ghost use Rattle.reading.specs.Leap.{leapWindow};
 ghost use Rattle.clock_string.specs.Reader.{whichever};
@@ -28,24 +27,24 @@ pub enum Coasting {
 }
 
 // A clock that coasts looks worse.
-pub fn bridge(s: &[u8], out: &mut [u8]) -> Written
+pub fn bridge(base: u16, s: &[u8], out: &mut [u8]) -> Written
     ensures { λ w. ⌜ w ≡ bridgeAnswer base (now (s .entry)) (length (now (out .entry))) ⌝ }
     ensures { λ w. ⌜ now (out .exit) ≡ bridgeFilled Coasting.Worse base (now (s .entry)) (now (out .entry)) ⌝ }
 {
-    bridge_with(s, Coasting::Worse, out)
+    bridge_with(base, s, Coasting::Worse, out)
 }
 
 // The same with the way named. The room is looked at before the string.
-pub fn bridge_with(s: &[u8], way: Coasting, out: &mut [u8]) -> Written
+pub fn bridge_with(base: u16, s: &[u8], way: Coasting, out: &mut [u8]) -> Written
     ensures { λ w. ⌜ w ≡ bridgeAnswer base (now (s .entry)) (length (now (out .entry))) ⌝ }
     ensures { λ w. ⌜ now (out .exit) ≡ bridgeFilled way base (now (s .entry)) (now (out .entry)) ⌝ }
 {
     if out.len() < Ieee1344::LENGTH {
         return refuse(refusal_of(Fault::Length), out);
     }
-    let answer = whichever(read(s));
+    let answer = whichever(read(base, s));
     match answer {
-        Answer::Time(r, coasting) => Ieee1344::write(carried_by(way, coasting, r), out),
+        Answer::Time(r, coasting) => Ieee1344::write(base, carried_by(way, coasting, r), out),
         Answer::No(refusal) => refuse(refusal, out),
     }
 }

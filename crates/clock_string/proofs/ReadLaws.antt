@@ -1,6 +1,7 @@
 -- Which string is read goes by the length; which string an answer names tells the length back.
 use mathlib.Core.Bool.{Bool, true, false}
 use mathlib.Core.List.{List}
+use mathlib.Core.Logic.{_⊎_, inl, inr}
 use mathlib.Core.Path.{_≡_, refl, sym, ap, _∙_}
 use Prim.Native.Nat.{ℕ, _<_}
 use native.Mathlib.Decide.{ℕ-discrete}
@@ -10,9 +11,10 @@ use borrow.Author.Tests.{eq-eqb, ne-eqb}
 use Rattle.wire.proofs.LayoutLaws.{allowedAt}
 use Rattle.reading.specs.declared.Reading.{Reading}
 use Rattle.reading.specs.declared.Refusal.{Refusal}
-use Rattle.reading.specs.declared.Fault.the-variants.{Length, Byte}
+use Rattle.reading.specs.declared.Fault.the-variants.{Length, Byte, OtherBase}
 use Rattle.reading.specs.declared.Verdict.the-variants.{Good}
 use Rattle.reading.specs.Faults.{number}
+use Rattle.reading.specs.Years.{isBase}
 use Rattle.reading.specs.Checks.{checkedOf}
 use Rattle.reading.proofs.OffsetLaws.{WholeHours}
 use Rattle.reading.proofs.CheckLaws.{clash}
@@ -20,7 +22,8 @@ use Rattle.strings.specs.declared.Answer.{Answer as Said}
 use Rattle.strings.specs.declared.Answer.the-variants.{Time, No as Refused}
 use Rattle.meinberg.specs.Layout.{textLength, layout as meinbergLayout}
 use Rattle.meinberg.specs.Meaning.{readMeinberg}
-use Rattle.meinberg.proofs.ReadLaws.{lowest-bad-byte as lowest-bad-of-meinberg}
+use Rattle.meinberg.proofs.ReadLaws.{lowest-bad-byte as lowest-bad-of-meinberg, other-base as other-fault-of-meinberg, refused as other-base-of-meinberg}
+use Rattle.erlangen.proofs.FaultLaws.{other-base as other-fault-of-erlangen, refused as other-base-of-erlangen}
 use Rattle.meinberg.proofs.RoundTrip.{accepted-length as meinberg-length, accepted-checked as meinberg-checked, accepted-whole-hours}
 use Rattle.erlangen.specs.Layout.{size, layout as erlangenLayout}
 use Rattle.erlangen.specs.Meaning.{readErlangen}
@@ -161,11 +164,16 @@ accepted-checked base s r coasting e = go (named base s r coasting e)
 
 -- ---- "for code 2 it is the lowest bad place"
 
-module _ (base : ℕ) (s : List ℕ) (k : ℕ) where
+-- "any other base .. is 19", at place 0, of either string
+pub other-base : (base : ℕ) (s : List ℕ) → (length s ≡ textLength) ⊎ (length s ≡ size) → isBase base ≡ false → readString base s ≡ No (number OtherBase)
+other-base base s (inl h) b = at-32 base s h ∙ ap asMeinberg (sym (other-base-of-meinberg base s OtherBase (other-fault-of-meinberg base s h b)))
+other-base base s (inr h) b = at-68 base s h ∙ ap asErlangen (sym (other-base-of-erlangen base s OtherBase (other-fault-of-erlangen base s h b)))
+
+module _ (base : ℕ) (s : List ℕ) (based : isBase base ≡ true) (k : ℕ) where
   pub lowest-bad-of-32 : length s ≡ textLength → k < textLength → allowedAt meinbergLayout s k ≡ false
       → ((i : ℕ) → i < k → allowedAt meinbergLayout s i ≡ true) → readString base s ≡ No (number (Byte k))
-  lowest-bad-of-32 h l bad before = at-32 base s h ∙ ap asMeinberg (lowest-bad-of-meinberg base s h k (omega arith) bad before)
+  lowest-bad-of-32 h l bad before = at-32 base s h ∙ ap asMeinberg (lowest-bad-of-meinberg base s h based k (omega arith) bad before)
 
   pub lowest-bad-of-68 : length s ≡ size → k < size → allowedAt erlangenLayout s k ≡ false
       → ((i : ℕ) → i < k → allowedAt erlangenLayout s i ≡ true) → readString base s ≡ No (number (Byte k))
-  lowest-bad-of-68 h l bad before = at-68 base s h ∙ ap asErlangen (lowest-bad-of-erlangen base s h k l bad before)
+  lowest-bad-of-68 h l bad before = at-68 base s h ∙ ap asErlangen (lowest-bad-of-erlangen base s h based k l bad before)

@@ -6,7 +6,7 @@ use Prim.Native.Nat.{ℕ}
 use native.Mathlib.Omega.{arith}
 use Rattle.reading.specs.declared.Reading.{Reading}
 use Rattle.reading.specs.declared.Refusal.{Refusal}
-use Rattle.reading.specs.Years.{base}
+use Rattle.reading.specs.Years.{usualBase as base}
 use Rattle.strings.specs.declared.Answer.the-variants.{Time}
 use Rattle.meinberg.proofs.Worked.{leapSecond, atLeapSecond}
 use Rattle.meinberg.proofs.StandIns.{leap-second-read}

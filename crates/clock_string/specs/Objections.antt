@@ -16,4 +16,4 @@ readObjections base s =
 
 -- the codes that the reader can answer with; 8 only to a Uni Erlangen string
 abbrev pub readCodes : List ℕ
-readCodes = 1 ∷ 2 ∷ 15 ∷ 16 ∷ 6 ∷ 8 ∷ 9 ∷ []
+readCodes = 1 ∷ 19 ∷ 2 ∷ 15 ∷ 16 ∷ 6 ∷ 8 ∷ 9 ∷ []

@@ -8,7 +8,6 @@ use reading::Refusal;
 use reading::faults::refusal_of;
 ghost use mathlib.Core.Path.{_≡_};
 ghost use Prim.Native.Nat.{_+_};
-ghost use Rattle.reading.specs.Years.{base};
 ghost use Rattle.clock_string.specs.Reader.{asMeinberg, asErlangen, readString};
 ghost use Rattle.clock_string.specs.Position.{positionOf, startFor};
 
@@ -38,20 +37,21 @@ fn as_erlangen(said: strings::Answer) -> Answer
 }
 
 // The length alone says which string it is; of no other length is a byte looked at.
-pub fn read(s: &[u8]) -> Answer
+pub fn read(base: u16, s: &[u8]) -> Answer
     ensures { λ a. ⌜ a ≡ readString base (now (s .entry)) ⌝ }
 {
     if s.len() == Meinberg::LENGTH {
-        return as_meinberg(meinberg::read::for_clock_string(s));
+        return as_meinberg(meinberg::read::for_clock_string(base, s));
     }
     if s.len() == Erlangen::LENGTH {
-        return as_erlangen(erlangen::read::for_clock_string(s));
+        return as_erlangen(erlangen::read::for_clock_string(base, s));
     }
     Answer::No(refusal_of(Fault::Length))
 }
 
-// The position bytes as a part of the caller's own string; empty for a Meinberg string, and for one that is refused.
-pub fn position_part(s: &[u8]) -> &[u8]
+// The position bytes as a part of the caller's own string; empty for a Meinberg string, and for one that is refused, as every one
+// is with another base than the two.
+pub fn position_part(base: u16, s: &[u8]) -> &[u8]
     ensures { λ r. ⌜ now r ≡ positionOf base (now (s .entry)) ⌝ }
     ensures { λ r. ⌜ r .ptr ≡ (s .entry .ptr .0, startFor (readString base (now (s .entry))) + s .entry .ptr .1) ⌝ }
 {
@@ -59,7 +59,7 @@ pub fn position_part(s: &[u8]) -> &[u8]
     if s.len() == Meinberg::LENGTH {
         return &s[0..0];
     }
-    match erlangen::read::for_clock_string(s) {
+    match erlangen::read::for_clock_string(base, s) {
         strings::Answer::Time(_, _) => &s[41..Erlangen::LAST],
         strings::Answer::No(_) => &s[0..0],
     }

@@ -17,7 +17,7 @@ use Rattle.reading.specs.Universal.{utcOf}
 use Rattle.reading.specs.Leap.{afterLeap}
 use Rattle.reading.specs.Checks.{checkedOf}
 use Rattle.reading.proofs.CheckLaws.{checked-is, clash}
-use Rattle.reading.proofs.UtcLaws.{Base, universal}
+use Rattle.reading.proofs.UtcLaws.{universal}
 use Rattle.reading.proofs.LeapLaws.{after-leap-first}
 use Rattle.pulses.specs.Row.{row}
 use Rattle.dcf77_table.specs.Table.{minuteMarks}
@@ -66,10 +66,10 @@ other-form-refused base r h e = other-form base r h (carried base r h e)
 
 -- "leap is announced and the named minute is 00:00 UTC of 1 January or 1 July", which by L3 "becomes 00:00 UTC on the first of any
 -- month"
-pub due-named : (base : ℕ) (r : Reading) → Base base → checkedOf base r ≡ Good
+pub due-named : (base : ℕ) (r : Reading) → checkedOf base r ≡ Good
     → dueLong r ≡ (r .leap && (eqb (utcOf r .minute) 0 && eqb (utcOf r .date .day) 1))
 unfolding dueLong
-due-named base r b e = rw (after-leap-first (utcOf r) (universal base r b (checked-is base r e) .real))
+due-named base r e = rw (after-leap-first (utcOf r) (universal base r (checked-is base r e) .real))
 
 -- ---- the room that the writer asks for
 

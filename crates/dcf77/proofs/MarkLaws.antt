@@ -13,13 +13,14 @@ use Rattle.dcf77.specs.Reader.{isLong, tableFor, lengthBad, readDcf77}
 use Rattle.dcf77.proofs.WriteLaws.{length-of-marks}
 use Rattle.dcf77.proofs.ReadLaws.{form-length, wrong-length, wrong-mark}
 use mathlib.Core.Path.{refl}
+use Rattle.reading.specs.Years.{isBase}
 
 pub other-length : (base : ℕ) (s : List ℕ) → lengthBad (length s) ≡ true → readDcf77 base s ≡ No (number Length)
 other-length base s e = sym (wrong-length base s (number Length) e refl)
 
-pub lowest-bad-mark : (base : ℕ) (s : List ℕ) (i : ℕ) → lengthBad (length s) ≡ false → i < length s
+pub lowest-bad-mark : (base : ℕ) (s : List ℕ) (i : ℕ) → lengthBad (length s) ≡ false → isBase base ≡ true → i < length s
     → ((j : ℕ) → j < i → allowedAt (tableFor s) s j ≡ true) → allowedAt (tableFor s) s i ≡ false → readDcf77 base s ≡ No (number (Byte i))
 unfolding tableFor
-lowest-bad-mark base s i e h before bad =
+lowest-bad-mark base s i e g h before bad =
     let l : length (tableFor s) ≡ length s = length-of-marks (isLong (length s)) ∙ sym (form-length (length s) e) in
-    sym (wrong-mark base s e i (number (Byte i)) (sym (first-bad (tableFor s) s i (omega arith) h before bad)) h refl)
+    sym (wrong-mark base s e g i (number (Byte i)) (sym (first-bad (tableFor s) s i (omega arith) h before bad)) h refl)

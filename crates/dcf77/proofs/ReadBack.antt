@@ -11,6 +11,7 @@ use lib.Dec.{eqb}
 use lib.ListN.{getD}
 use Rattle.laws.proofs.Bools.{either, is-true}
 use Rattle.reading.specs.declared.Reading.{Reading}
+use Rattle.reading.specs.Years.{isBase}
 use Rattle.reading.specs.Offset.{west, east, offsetGood}
 use Rattle.reading.specs.Universal.{utcOf}
 use Rattle.reading.specs.Leap.{sixtyBad}
@@ -52,7 +53,7 @@ zero-fine r = refl
 
 -- ---- values without a fault
 
-module _ (base : ℕ) (long : Bool) (v : List ℕ) (p : Proper v) (q : Sound (row (minuteMarks long) v) v (readingOf base v)) where
+module _ (base : ℕ) (based : isBase base ≡ true) (long : Bool) (v : List ℕ) (p : Proper v) (q : Sound (row (minuteMarks long) v) v (readingOf base v)) where
   abbrev r : Reading
   r = readingOf base v
 
@@ -66,6 +67,7 @@ module _ (base : ℕ) (long : Bool) (v : List ℕ) (p : Proper v) (q : Sound (ro
         checked =
             is-checked base r
             (record {
+              base-good = based;
               hour = q .fields .hour;
               minute = q .fields .minute;
               second = omega arith;

@@ -1,5 +1,5 @@
 -- What marks without a fault say, and what they are.
-use mathlib.Core.Bool.{Bool, true, false, cond, _||_}
+use mathlib.Core.Bool.{Bool, true, false, cond, not, _||_}
 use mathlib.Core.List.{List}
 use mathlib.Core.Path.{_≡_, refl, sym, _∙_}
 use Prim.Native.Nat.{ℕ, _<_, _≤_}
@@ -10,10 +10,11 @@ use lib.Dec.{ltb, eqb, lit≤}
 use lib.ListN.{length, getD}
 use Rattle.reading.specs.declared.Reading.{Reading}
 use Rattle.reading.specs.declared.Refusal.{Refusal}
-use Rattle.reading.specs.declared.Fault.the-variants.{Length, Byte}
+use Rattle.reading.specs.declared.Fault.the-variants.{Length, Byte, OtherBase}
 use Rattle.reading.specs.declared.Verdict.{Verdict}
 use Rattle.reading.specs.declared.Verdict.the-variants.{Good, Bad}
 use Rattle.reading.specs.Faults.{number}
+use Rattle.reading.specs.Years.{isBase}
 use Rattle.reading.proofs.CheckLaws.{first-good, clash}
 use Rattle.pulses.specs.declared.Scan.{Scan}
 use Rattle.pulses.specs.Row.{goodPulses, scanOf}
@@ -57,23 +58,28 @@ module _ (base : ℕ) (s : List ℕ) where
   unfolding readDcf77 readFault
   wrong-length n e p = rw (e, p)
 
-  module _ (e : lengthBad (length s) ≡ false) where
-    pub wrong-mark : (g : ℕ) (n : Refusal) → g ≡ goodPulses (tableFor s) s → g < length s → n ≡ number (Byte g) → No n ≡ readDcf77 base s
+  pub other-base : (n : Refusal) → lengthBad (length s) ≡ false → isBase base ≡ false → n ≡ number OtherBase → No n ≡ readDcf77 base s
+  unfolding readDcf77 readFault
+  other-base n e g p = rw (e, g, p)
+
+  module _ (e : lengthBad (length s) ≡ false) (g : isBase base ≡ true) where
+    pub wrong-mark : (m : ℕ) (n : Refusal) → m ≡ goodPulses (tableFor s) s → m < length s → n ≡ number (Byte m) → No n ≡ readDcf77 base s
     unfolding readDcf77 readFault
-    wrong-mark g n q k p =
+    wrong-mark m n q k p =
         let l : goodPulses (tableFor s) s < length s = omega arith in
-        rw (e, lt-ltb (goodPulses (tableFor s) s) (length s) l, p, q)
+        rw (e, g, lt-ltb (goodPulses (tableFor s) s) (length s) l, p, q)
 
     pub marks-told : (v : List ℕ) (r : Reading) (f : Verdict) (a : Answer) → length s ≤ goodPulses (tableFor s) s → v ≡ says s
         → r ≡ readingOf base v → f ≡ saidFault s v r → a ≡ answerOf f r (getD v head 0) → a ≡ readDcf77 base s
     unfolding readDcf77 readFault
-    marks-told v r f a k p q t u = rw (e, le-ltb (goodPulses (tableFor s) s) (length s) k, u, t, q, p)
+    marks-told v r f a k p q t u = rw (e, g, le-ltb (goodPulses (tableFor s) s) (length s) k, u, t, q, p)
 
 -- ---- a time, and what it comes from
 
 -- marks of a right length, each of them good, whose values name the reading
 pub record Read (base : ℕ) (s : List ℕ) (r : Reading) (h : ℕ) : Type 0 where
   pub long : length s ≡ lengthOf (isLong (length s))
+  pub base-good : isBase base ≡ true
   pub good : goodPulses (tableFor s) s ≡ length s
   pub reading : readingOf base (says s) ≡ r
   pub head-is : getD (says s) head 0 ≡ h
@@ -101,9 +107,11 @@ module _ (base : ℕ) (s : List ℕ) (r : Reading) (h : ℕ) where
   read-is e =
       let a = time-of (readFault base s) (readingOf base (says s)) r (getD (says s) head 0) h e in
       let b = first-good (lengthBad (length s)) _ _ (a .0) in
-      let c = first-good (ltb (goodPulses (tableFor s) s) (length s)) _ _ (b .1) in
+      let g = first-good (not (isBase base)) _ _ (b .1) in
+      let c = first-good (ltb (goodPulses (tableFor s) s) (length s)) _ _ (g .1) in
       record {
         long = form-length (length s) (b .0);
+        base-good = not-false _ (g .0);
         good = le-antisymm (good-in-row (tableFor s) s) (ltb-false (goodPulses (tableFor s) s) (length s) (c .0));
         reading = a .1;
         head-is = a .2;
@@ -112,4 +120,4 @@ module _ (base : ℕ) (s : List ℕ) (r : Reading) (h : ℕ) where
 
   pub is-read : lengthBad (length s) ≡ false → Read base s r h → readDcf77 base s ≡ Time r h
   is-read e p =
-      sym (marks-told base s e (says s) r Good (Time r h) (omega (arith, p .good)) refl (sym (p .reading)) (sym (faultless s (says s) r (p .sound-marks))) (rw (p .head-is)))
+      sym (marks-told base s e (p .base-good) (says s) r Good (Time r h) (omega (arith, p .good)) refl (sym (p .reading)) (sym (faultless s (says s) r (p .sound-marks))) (rw (p .head-is)))

@@ -14,11 +14,11 @@ use Rattle.reading.specs.declared.Fault.the-variants.{OutsideYears}
 use Rattle.reading.specs.declared.Verdict.{Verdict}
 use Rattle.reading.specs.declared.Verdict.the-variants.{Good}
 use Rattle.reading.specs.declared.Written.the-variants.{Length, No}
-use Rattle.reading.specs.declared.Stamp.the-variants.{At, Refused}
+use Rattle.reading.specs.declared.Stamp.the-variants.{Refused}
 use Rattle.reading.specs.Faults.{number}
 use Rattle.reading.specs.Universal.{utcOf}
 use Rattle.reading.specs.Checks.{checkedOf}
-use Rattle.reading.specs.Stamps.{hasStamp, stampNumber, stampOf}
+use Rattle.reading.specs.Stamps.{hasStamp, stampNumber, stampIs, stampOf}
 use Rattle.reading.specs.Writing.{writtenOf, filled}
 use Rattle.reading.proofs.WrittenLaws.{length-is, untouched}
 use Rattle.reading.proofs.StampLaws.{is-stamp, refused-by-12}
@@ -53,12 +53,12 @@ module _ (base : ℕ) (s : List ℕ) (r : Reading) (h : ℕ) (p : Read base s r 
   read-carried : Carried base r h
   unfolding says tableFor
   read-carried =
-      rw (p .reading, p .head-is) at (said-carried base (isLong (length s)) (says s) (said-proper (isLong (length s)) s) said-sound)
+      rw (p .reading, p .head-is) at (said-carried base (p .base-good) (isLong (length s)) (says s) (said-proper (isLong (length s)) s) said-sound)
 
   read-values : valuesOf r h ≡ says s
   unfolding says tableFor
   read-values =
-      rw (p .reading, p .head-is) at (values-there base (isLong (length s)) (says s) (said-proper (isLong (length s)) s) said-sound)
+      rw (p .reading, p .head-is) at (values-there base (p .base-good) (isLong (length s)) (says s) (said-proper (isLong (length s)) s) said-sound)
 
   read-again : bytesOf r h ≡ s
   read-again = bytes-are r h ∙ rw (← p .sound-marks .fields .form, read-values) marks-again
@@ -110,13 +110,13 @@ accepted-checked base s r h e = carried base r h (read-bytes base s r h e .0) .c
 
 -- stamping it is refused by 12 alone
 pub accepted-stamped : (base : ℕ) (s : List ℕ) (r : Reading) (h : ℕ) → readDcf77 base s ≡ Time r h
-    → (stampOf base r ≡ At (stampNumber (utcOf r) (r .second))) ⊎ (stampOf base r ≡ Refused (number OutsideYears))
+    → (stampOf base r ≡ stampIs (stampNumber (utcOf r) (r .second))) ⊎ (stampOf base r ≡ Refused (number OutsideYears))
 accepted-stamped base s r h e = go (hasStamp (utcOf r .date .year)) refl
   where
     c : checkedOf base r ≡ Good
     c = accepted-checked base s r h e
 
     go : (b : Bool) → hasStamp (utcOf r .date .year) ≡ b
-        → (stampOf base r ≡ At (stampNumber (utcOf r) (r .second))) ⊎ (stampOf base r ≡ Refused (number OutsideYears))
+        → (stampOf base r ≡ stampIs (stampNumber (utcOf r) (r .second))) ⊎ (stampOf base r ≡ Refused (number OutsideYears))
     go true k = inl (is-stamp base r (stampNumber (utcOf r) (r .second)) (record { checked = c; year = k; value = refl }))
     go false k = inr (refused-by-12 base r c k)

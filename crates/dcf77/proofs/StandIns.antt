@@ -12,7 +12,7 @@ use Rattle.reading.specs.declared.Verdict.the-variants.{Good}
 use Rattle.reading.specs.declared.Fault.the-variants.{Byte}
 use Rattle.reading.specs.declared.Written.the-variants.{Length}
 use Rattle.reading.specs.Faults.{number}
-use Rattle.reading.specs.Years.{yearOf}
+use Rattle.reading.specs.Years.{yearOf, isBase}
 use Rattle.reading.specs.Universal.{dateOf}
 use Rattle.reading.specs.Writing.{writtenOf, filled}
 use Rattle.reading.proofs.CheckLaws.{is-checked, clash}
@@ -45,7 +45,7 @@ minute-of base n =
       quality = 0;
     }
 
-module _ (base : ℕ) where
+module _ (base : ℕ) (based : isBase base ≡ true) where
   new-year : (n : ℕ) → isDate (dateOf (minute-of base n)) ≡ true
   unfolding isDate isMonth isDay lastDay daysIn minute-of
   new-year n = refl
@@ -58,6 +58,7 @@ module _ (base : ℕ) where
         checked =
             is-checked base (minute-of base n)
             (record {
+              base-good = based;
               hour = omega arith;
               minute = h;
               second = omega arith;
@@ -95,7 +96,7 @@ module _ (base : ℕ) where
   -- marks that are none
   pub no-marks : readDcf77 base (replicate 60 3) ≡ No (number (Byte 0))
   unfolding readDcf77 readFault lengthBad isLong tableFor goodPulses pulseAllowed groupOf minuteMarks sharedMarks lastMarks
-  no-marks = refl
+  no-marks = rw based
 
   pub short : (n : ℕ) → lengthOf (dueLong (minute-of base n)) ≡ 60
   unfolding lengthOf dueLong minute-of

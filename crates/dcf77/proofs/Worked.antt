@@ -9,7 +9,7 @@ use Rattle.laws.specs.Tests.{among}
 use Rattle.calendar.specs.Calendar.{leapYear, daysIn, daysBefore, yearLength, daysBeforeYear, dayOfYear, dayNumber, weekdayOf, isMonth, lastDay, isDay, isDate, dayBefore}
 use Rattle.reading.specs.declared.Reading.{Reading}
 use Rattle.reading.specs.declared.Verdict.the-variants.{Good}
-use Rattle.reading.specs.Years.{base, inHundred}
+use Rattle.reading.specs.Years.{usualBase as base, inHundred, isBase, firstYear}
 use Rattle.reading.specs.Offset.{west, east, offsetGood}
 use Rattle.reading.specs.Universal.{utcMinutes, onDay, utcOf}
 use Rattle.reading.specs.Leap.{closesWithLeap, sixtyBad, afterLeap}
@@ -58,7 +58,7 @@ unfolding case-8 ones-8 winter marksWith upTo bytesOf valuesOf withParity plainO
 case-8-marks = refl
 
 carried-8 : carryFault base case-8 0 ≡ Good
-unfolding case-8 winter carryFault checkedWith notCarried headBad timeBad dateBad inHundred isDate isMonth isDay lastDay daysIn leapYear offsetGood offsetIn west east sixtyBad
+unfolding case-8 winter carryFault checkedWith notCarried headBad timeBad dateBad inHundred isDate isMonth isDay lastDay daysIn leapYear offsetGood offsetIn west east sixtyBad firstYear isBase
 carried-8 = refl
 
 pub case-8-read : readDcf77 base (marksWith 60 59 ones-8) ≡ Time case-8 0
@@ -77,7 +77,7 @@ unfolding new-year new-year-ones winter marksWith upTo bytesOf valuesOf withPari
 new-year-marks = refl
 
 carried-new-year : carryFault base new-year 0 ≡ Good
-unfolding new-year winter carryFault checkedWith notCarried headBad timeBad dateBad inHundred isDate isMonth isDay lastDay daysIn leapYear offsetGood offsetIn west east sixtyBad
+unfolding new-year winter carryFault checkedWith notCarried headBad timeBad dateBad inHundred isDate isMonth isDay lastDay daysIn leapYear offsetGood offsetIn west east sixtyBad firstYear isBase
 carried-new-year = refl
 
 pub new-year-read : readDcf77 base (marksWith 61 60 new-year-ones) ≡ Time new-year 0

@@ -1,5 +1,5 @@
 -- What a writer that refuses nothing has found, and what it leaves in the buffer.
-use mathlib.Core.Bool.{Bool, true, false, cond, _&&_, _||_}
+use mathlib.Core.Bool.{Bool, true, false, cond, not, _&&_, _||_}
 use mathlib.Core.List.{List, _++_}
 use mathlib.Core.Path.{_≡_, refl, sym, _∙_}
 use Prim.Native.Nat.{ℕ, _≤_}
@@ -14,7 +14,8 @@ use Rattle.laws.proofs.Signed.{same-is}
 use Rattle.reading.specs.declared.Reading.{Reading}
 use Rattle.reading.specs.declared.Verdict.{Verdict}
 use Rattle.reading.specs.declared.Verdict.the-variants.{Good, Bad}
-use Rattle.reading.specs.Checks.{timeBad, dateBad, qualityBad, checkedOf}
+use Rattle.reading.specs.Years.{isBase}
+use Rattle.reading.specs.Checks.{timeBad, dateBad, qualityBad, soundOf, checkedOf}
 use Rattle.reading.specs.declared.Written.{Written}
 use Rattle.reading.specs.Writing.{writtenOf, filled}
 use Rattle.reading.proofs.CheckLaws.{first-good, clash}
@@ -61,10 +62,11 @@ same-self (negsuc n) = eqb-refl n
 module _ (base : ℕ) (r : Reading) (h : ℕ) where
   -- the head is good and so are the shared checks
   head-checked : (b : Bool) → headBad h ≡ b → checkedWith base r h ≡ Good → (b ≡ false) × (checkedOf base r ≡ Good)
-  unfolding checkedWith checkedOf
+  unfolding checkedWith checkedOf soundOf
   head-checked false p e = (refl, rw (p, or-false (qualityBad (r .quality))) at e)
   head-checked true p e =
-      let a = first-good (timeBad r) _ _ e in
+      let g = first-good (not (isBase base)) _ _ e in
+      let a = first-good (timeBad r) _ _ (g .1) in
       let b = first-good (dateBad base r) _ _ (a .1) in
       let c = first-good (qualityBad (r .quality) || headBad h) _ _ (b .1) in
       let d : true ≡ false = sym (rw p (or-true (qualityBad (r .quality)))) ∙ c .0 in
@@ -91,7 +93,7 @@ module _ (base : ℕ) (r : Reading) (h : ℕ) where
       record { checked = b .1; head = head-small (b .0); second = c .0; quality = c .1; offset = c .2 }
 
   checked-so : Carried base r h → checkedWith base r h ≡ Good
-  unfolding checkedWith checkedOf headBad
+  unfolding checkedWith checkedOf soundOf headBad
   checked-so p = rw (le-ltb 32767 h (p .head), or-false (qualityBad (r .quality))) (p .checked)
 
   carried-so : Carried base r h → notCarried r ≡ false

@@ -143,6 +143,7 @@ module _ (base : ℕ) (r : Reading) (h : ℕ) (p : Carried base r h) where
       is-read base s r h (rw (marks-length (dueLong r)) (length-fine (dueLong r)))
       (record {
         long = rw (form-said (dueLong r)) (marks-length (dueLong r));
+        base-good = checked-is base r (p .checked) .base-good;
         good = good-back (dueLong r);
         reading = rw said reading-back;
         head-is = rw said head-back;
@@ -161,6 +162,6 @@ module _ (base : ℕ) (r : Reading) (h : ℕ) (p : Carried base r h) where
       let s = marks long in
       let e : lengthBad (length s) ≡ false = rw (marks-length long) (length-fine long) in
       sym
-      (marks-told base s e (valuesOf r h) r (Bad (LeapSecond (lastOf long))) (No (number (LeapSecond (lastOf long)))) (omega (arith, good-back long)) (sym (says-back long)) (sym reading-back)
+      (marks-told base s e (checked-is base r (p .checked) .base-good) (valuesOf r h) r (Bad (LeapSecond (lastOf long))) (No (number (LeapSecond (lastOf long)))) (omega (arith, good-back long)) (sym (says-back long)) (sym reading-back)
       (sym (length-against s (valuesOf r h) r digits-back (evens-back long) (fields-back (dueLong r) refl) (form-said long)))
       refl)

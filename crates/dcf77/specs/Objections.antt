@@ -1,5 +1,5 @@
 -- What can be wrong with a DCF77 minute, and with what is to be written as one, with code and place.
--- Conditions and codes are those of 01's table, as amended by L5, a place is that of "the first byte of the lowest offending field".
+-- Conditions and codes are those of 01's table, as amended by L5 and L12, a place is that of "the first byte of the lowest offending field".
 -- (Of an input of another length, code 2 may hold too: code 1 goes before it.)
 use mathlib.Core.Bool.{true, not, Bool·beq, _||_}
 use mathlib.Core.List.{List, [], _∷_, _++_}
@@ -13,7 +13,7 @@ use Rattle.reading.specs.Universal.{utcOf}
 use Rattle.reading.specs.Leap.{sixtyBad}
 use Rattle.reading.specs.Checks.{hourBad, minuteBad, timeBad, dateBad, qualityBad, dayBad, monthBad, weekdayWrong}
 use Rattle.reading.specs.Refusals.{Objection, objection, quiet, Owed}
-use Rattle.reading.specs.Objections.{checkObjections}
+use Rattle.reading.specs.Objections.{baseObjection, checkObjections}
 use Rattle.pulses.specs.Row.{goodPulses, overNine}
 use Rattle.dcf77_table.specs.Table.{minutes, hours, days, months, years, tensOfYears, weekday, zone}
 use Rattle.dcf77.specs.declared.Answer.{Answer}
@@ -23,10 +23,11 @@ use Rattle.dcf77.specs.Forms.{lastOf, dueLong}
 use Rattle.dcf77.specs.Reader.{isLong, tableFor, says, readingOf, lengthBad, odd}
 use Rattle.dcf77.specs.Writer.{headBad, notCarried, carryFault, needed}
 
--- the marks s, where their groups say the values v and name the reading r; "for a DCF77 length, the last place"
-unfoldable pub saidObjections : List ℕ → List ℕ → Reading → List Objection
-saidObjections s v r =
+-- the marks s, where their groups say the values v and with this base name the reading r; "for a DCF77 length, the last place"
+unfoldable pub saidObjections : ℕ → List ℕ → List ℕ → Reading → List Objection
+saidObjections base s v r =
     objection (lengthBad (length s)) 1 0
+    ∷ baseObjection base
     ∷ objection (ltb (goodPulses (tableFor s) s) (length s)) 2 (goodPulses (tableFor s) s)
     ∷ objection (overNine v minutes) 3 21
     ∷ objection (overNine v hours) 3 29
@@ -48,21 +49,22 @@ saidObjections s v r =
 
 -- the marks of a minute
 unfoldable pub readObjections : ℕ → List ℕ → List Objection
-readObjections base s = saidObjections s (says s) (readingOf base (says s))
+readObjections base s = saidObjections base s (says s) (readingOf base (says s))
 
 -- a reading with its head, and room for so many marks
 unfoldable pub writeObjections : ℕ → Reading → ℕ → ℕ → List Objection
 writeObjections base r h room =
     objection (ltb room (needed (carryFault base r h) (dueLong r))) 1 0
+    ∷ baseObjection base
     ∷ checkObjections (timeBad r) (dateBad base r) (qualityBad (r .quality) || headBad h) (not (offsetGood (r .offset .0))) (sixtyBad (utcOf r) (r .second))
     ++ (objection (notCarried r) 11 0 ∷ [])
 
 -- the codes that reader and writer can answer with
 abbrev pub readCodes : List ℕ
-readCodes = 1 ∷ 2 ∷ 3 ∷ 4 ∷ 15 ∷ 16 ∷ 6 ∷ 8 ∷ 9 ∷ []
+readCodes = 1 ∷ 19 ∷ 2 ∷ 3 ∷ 4 ∷ 15 ∷ 16 ∷ 6 ∷ 8 ∷ 9 ∷ []
 
 abbrev pub writeCodes : List ℕ
-writeCodes = 1 ∷ 15 ∷ 16 ∷ 17 ∷ 8 ∷ 9 ∷ 11 ∷ []
+writeCodes = 1 ∷ 19 ∷ 15 ∷ 16 ∷ 17 ∷ 8 ∷ 9 ∷ 11 ∷ []
 
 -- what is promised of an answer: where a time is told nothing is objected, and a refusal is the one to give
 abbrev pub AnswerOwed : List Objection → List ℕ → Answer → Type 0

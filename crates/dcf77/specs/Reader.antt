@@ -10,7 +10,7 @@ use Rattle.reading.specs.declared.Verdict.the-variants.{Good, Bad}
 use Rattle.reading.specs.declared.Fault.the-variants.{Length, Byte, Digit, Parity, Time, Date, Weekday, Offset, LeapSecond}
 use Rattle.reading.specs.Faults.{number, first}
 use Rattle.reading.specs.Years.{yearOf}
-use Rattle.reading.specs.Checks.{hourBad, minuteBad, dayBad, monthBad, weekdayWrong}
+use Rattle.reading.specs.Checks.{onBase, hourBad, minuteBad, dayBad, monthBad, weekdayWrong}
 use Rattle.reading.specs.Writing.{andThen}
 use Rattle.pulses.specs.Row.{goodPulses, sumsOf, onesOf, overNine}
 use Rattle.dcf77_table.specs.Table.{
@@ -143,7 +143,8 @@ saidFault s v r =
 unfoldable pub readFault : ℕ → List ℕ → Verdict
 readFault base s =
     first (lengthBad (length s)) Length
-    (first (ltb (goodPulses (tableFor s) s) (length s)) (Byte (goodPulses (tableFor s) s)) (saidFault s (says s) (readingOf base (says s))))
+    (onBase base
+    (first (ltb (goodPulses (tableFor s) s) (length s)) (Byte (goodPulses (tableFor s) s)) (saidFault s (says s) (readingOf base (says s)))))
 
 -- the time with its head, or the refusal of the first fault
 abbrev pub answerOf : Verdict → Reading → ℕ → Answer

@@ -14,7 +14,7 @@ use Rattle.reading.specs.Faults.{first}
 use Rattle.reading.specs.Offset.{offsetGood}
 use Rattle.reading.specs.Universal.{dateOf, utcOf}
 use Rattle.reading.specs.Leap.{sixtyBad}
-use Rattle.reading.specs.Checks.{timeBad, dateBad, qualityBad, firstFault}
+use Rattle.reading.specs.Checks.{onBase, timeBad, dateBad, qualityBad, firstFault}
 use Rattle.reading.specs.Writing.{andThen}
 use Rattle.pulses.specs.Row.{row, onesOf, bit}
 use Rattle.dcf77_table.specs.Table.{minuteParity, hourParity, dateParity, minuteMarks}
@@ -60,16 +60,17 @@ bytesOf r h = row (minuteMarks (dueLong r)) (valuesOf r h)
 unfoldable pub headBad : ℕ → Bool
 headBad h = ltb 32767 h
 
--- the shared checks, with the head's beside the quality's
+-- the shared checks, with the base's before them and the head's beside the quality's
 unfoldable pub checkedWith : ℕ → Reading → ℕ → Verdict
 checkedWith base r h =
-    firstFault (timeBad r) (dateBad base r) (qualityBad (r .quality) || headBad h) (not (offsetGood (r .offset .0))) (sixtyBad (utcOf r) (r .second))
+    onBase base
+    (firstFault (timeBad r) (dateBad base r) (qualityBad (r .quality) || headBad h) (not (offsetGood (r .offset .0))) (sixtyBad (utcOf r) (r .second)))
 
 -- "second or quality not 0, or another zone than its two"
 unfoldable pub notCarried : Reading → Bool
 notCarried r = not (eqb (r .second) 0 && (eqb (r .quality) 0 && same (r .offset .0) (offsetIn (r .summer))))
 
--- codes 15, 16, 17, 8, 9 and 11
+-- codes 19, 15, 16, 17, 8, 9 and 11
 unfoldable pub carryFault : ℕ → Reading → ℕ → Verdict
 carryFault base r h = andThen (checkedWith base r h) (first (notCarried r) NotCarried Good)
 
@@ -78,8 +79,8 @@ abbrev pub isGood : Verdict → Bool
 isGood Good = true
 isGood (Bad fault) = false
 
--- "61 bytes where codes 2 to 11 let the reading through and the leap rule makes the minute long, and 60 otherwise"; 15, 16 and 17, which by
--- L5 stand in 5's position, are among these
+-- "61 bytes where codes 2 to 11 let the reading through and the leap rule makes the minute long, and 60 otherwise"; among these are 15, 16
+-- and 17, which by L5 stand in 5's position, and L12's 19
 unfoldable pub needed : Verdict → Bool → ℕ
 needed verdict long = lengthOf (isGood verdict && long)
 

@@ -17,10 +17,10 @@ use reading::checks::hour_bad;
 use reading::checks::minute_bad;
 use reading::checks::weekday_wrong;
 use reading::faults::refusal_of;
+use reading::years::is_base;
 use reading::years::year_of;
 ghost use mathlib.Core.Path.{_≡_};
 ghost use Prim.Native.Nat.{_+_, _*_, _<_, _≤_};
-ghost use Rattle.reading.specs.Years.{base};
 ghost use Rattle.dcf77_table.specs.Values.{Proper};
 ghost use Rattle.dcf77.specs.Forms.{lastOf};
 ghost use Rattle.dcf77.specs.Zones.{zoneBad};
@@ -51,14 +51,14 @@ fn two_digits(tens: u32, ones: u32) -> u8
 }
 
 // The reading that the values of the groups name.
-fn reading_of(v: [u32; 32]) -> Reading
+fn reading_of(base: u16, v: [u32; 32]) -> Reading
     requires { ⌜ Proper v ⌝ }
     ensures { λ r. ⌜ r ≡ readingOf base v ⌝ }
 {
     let summer = v[groups::ZONE] == zone_of(true);
     let year = two_digits(v[groups::TENS_OF_YEARS], v[groups::YEARS]);
     Reading {
-        year: year_of(year),
+        year: year_of(base, year),
         month: two_digits(v[groups::TENS_OF_MONTHS], v[groups::MONTHS]),
         day: two_digits(v[groups::TENS_OF_DAYS], v[groups::DAYS]),
         hour: two_digits(v[groups::TENS_OF_HOURS], v[groups::HOURS]),
@@ -159,11 +159,14 @@ fn told(verdict: Verdict, r: Reading, head: u16) -> Answer
 }
 
 impl Dcf77 {
-    pub fn read(s: &[u8]) -> Answer
+    pub fn read(base: u16, s: &[u8]) -> Answer
         ensures { λ a. ⌜ a ≡ readDcf77 base (now (s .entry)) ⌝ }
     {
         if length_bad(s.len()) {
             return Answer::No(refusal_of(Fault::Length));
+        }
+        if !is_base(base) {
+            return Answer::No(refusal_of(Fault::OtherBase));
         }
         let long = s.len() == Dcf77::LONG_LENGTH;
         let scan = dcf77_table::scanned(long, s);
@@ -172,7 +175,7 @@ impl Dcf77 {
             return Answer::No(refusal_of(Fault::Byte(good)));
         }
         let v = scan.sums;
-        let r = reading_of(v);
+        let r = reading_of(base, v);
         told(said_fault(s, v, r), r, v[groups::HEAD] as u16)
     }
 }

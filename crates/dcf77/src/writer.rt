@@ -21,12 +21,12 @@ use reading::checks::time_bad;
 use reading::faults::refusal_of;
 use reading::faults::written;
 use reading::offsets::same_offset;
+use reading::years::is_base;
 ghost use mathlib.Core.Path.{_≡_};
 ghost use mathlib.Core.Bool.{false, cond};
 ghost use Prim.Native.Nat.{_≤_};
 ghost use lib.ListN.{length};
 ghost use Rattle.pulses.specs.Row.{row, laid};
-ghost use Rattle.reading.specs.Years.{base};
 ghost use Rattle.reading.specs.Writing.{writtenOf, filled};
 ghost use Rattle.dcf77_table.specs.Table.{minuteMarks};
 ghost use Rattle.dcf77.specs.Forms.{lengthOf, dueLong};
@@ -95,14 +95,17 @@ fn lay_minute(out: &mut [u8], long: bool, plain: [u32; 32])
     out[places::DATE_PARITY] = date;
 }
 
-// The shared checks, with the head's beside the quality's.
-fn checked_with(r: Reading, head: u16) -> Verdict
+// The shared checks, with the base's before them and the head's beside the quality's.
+fn checked_with(base: u16, r: Reading, head: u16) -> Verdict
     ensures { λ v. ⌜ v ≡ checkedWith base r head ⌝ }
 {
+    if !is_base(base) {
+        return Verdict::Bad(Fault::OtherBase);
+    }
     let offset = r.offset;
     first_fault(
         time_bad(r),
-        date_bad(r),
+        date_bad(base, r),
         quality_bad(r.quality) | (Dcf77::LAST_HEAD < head),
         !offset.is_good(),
         leap_second_bad(r),
@@ -116,11 +119,11 @@ fn not_carried(r: Reading) -> bool
     !((r.second == 0) & ((r.quality == 0) & zone))
 }
 
-fn carry_fault(r: Reading, head: u16) -> Verdict
+fn carry_fault(base: u16, r: Reading, head: u16) -> Verdict
     ensures { λ v. ⌜ v ≡ carryFault base r head ⌝ }
 {
     let rest = first(not_carried(r), Fault::NotCarried, Verdict::Good);
-    and_then(checked_with(r, head), rest)
+    and_then(checked_with(base, r, head), rest)
 }
 
 fn is_good(verdict: Verdict) -> bool
@@ -155,7 +158,7 @@ fn store(good: bool, out: &mut [u8], long: bool, r: Reading, head: u16)
 }
 
 impl Dcf77 {
-    pub fn write(r: Reading, head: u16, out: &mut [u8]) -> Written
+    pub fn write(base: u16, r: Reading, head: u16, out: &mut [u8]) -> Written
         ensures { λ w. ⌜ w ≡ writtenOf (writeFault base r head (length (now (out .entry)))) (lengthOf (dueLong r)) ⌝ }
         ensures { λ w. ⌜ now (out .exit) ≡ filled (writeFault base r head (length (now (out .entry)))) (bytesOf r head) (now (out .entry)) ⌝ }
     {
@@ -164,7 +167,7 @@ impl Dcf77 {
             return Written::No(refusal_of(Fault::Length));
         }
         let long = due_long(r);
-        let verdict = room_fault(carry_fault(r, head), long, out.len());
+        let verdict = room_fault(carry_fault(base, r, head), long, out.len());
         store(is_good(verdict), out, long, r, head);
         written(verdict, length_of(long))
     }

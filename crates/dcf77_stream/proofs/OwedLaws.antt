@@ -25,7 +25,7 @@ use Rattle.dcf77_stream.specs.Said.{saidOf, betweenGaps, outlined, owed}
 
 -- the codes that it can say: with the outline there is no other length
 abbrev pub saidCodes : List ℕ
-saidCodes = 2 ∷ 3 ∷ 4 ∷ 15 ∷ 16 ∷ 6 ∷ 8 ∷ 9 ∷ []
+saidCodes = 19 ∷ 2 ∷ 3 ∷ 4 ∷ 15 ∷ 16 ∷ 6 ∷ 8 ∷ 9 ∷ []
 
 said-due : (base : ℕ) (s : List ℕ) (x : Refusal) (a : Answer) → AnswerOwed (readObjections base s) readCodes a → saidOf a ≡ No x → due (readObjections base s) x ≡ true
 said-due base s x (Told r head) p e = let z : _≡_ {A = ℕ} 0 1 = cc in clash z

@@ -7,7 +7,8 @@ use native.Mathlib.Omega.{arith}
 use lib.ListN.{length, replicate}
 use Rattle.reading.specs.declared.Reading.{Reading}
 use Rattle.reading.specs.declared.Verdict.the-variants.{Good}
-use Rattle.reading.specs.Years.{base}
+use Rattle.reading.specs.Years.{usualBase as base}
+use Rattle.reading.proofs.YearLaws.{usual-base}
 use Rattle.dcf77.specs.Writer.{bytesOf, carryFault}
 use Rattle.dcf77.proofs.WriteLaws.{length-bytes}
 use Rattle.dcf77.proofs.ShapeLaws.{gap-at-end}
@@ -38,16 +39,16 @@ abbrev second : Reading
 second = minute-of base 1
 
 first-good : carryFault base first 0 ≡ Good
-first-good = good base 0 (omega arith)
+first-good = good base usual-base 0 (omega arith)
 
 second-good : carryFault base second 0 ≡ Good
-second-good = good base 1 (omega arith)
+second-good = good base usual-base 1 (omega arith)
 
 different : second ≡ first → ⊥
-different e = let z : second .minute ≡ first .minute = ap (λ (r : Reading). r .minute) e in omega (arith, minute-is base 0, minute-is base 1)
+different e = let z : second .minute ≡ first .minute = ap (λ (r : Reading). r .minute) e in omega (arith, minute-is base usual-base 0, minute-is base usual-base 1)
 
 length-second : length (bytesOf second 0) ≡ 60
-length-second = length-bytes second 0 ∙ short base 1
+length-second = length-bytes second 0 ∙ short base usual-base 1
 
 -- a gap that is none, thirty marks before a minute's opening gap
 abbrev stray : List ℕ
@@ -71,45 +72,45 @@ too-few = nothing-at-first-gap base [] refl
 abbrev pub answerBy : PulseReader → (PulseReader → ℕ → Stepped) → List ℕ → Said
 answerBy fresh step symbols = newestOf Nothing (answersOf (λ s. s .reader) (λ s. s .said) step fresh symbols)
 
-module _ (fresh : PulseReader) (step : PulseReader → ℕ → Stepped)
-    (starts : Meets 0 fresh-kinds.ps fresh-kinds.r fresh-reads.Post (λ κs a. fresh))
+module _ (fresh : ℕ → PulseReader) (step : PulseReader → ℕ → Stepped)
+    (starts : Meets 0 fresh-kinds.ps fresh-kinds.r fresh-reads.Post (λ κs a. fresh (a .0)))
     (steps : Meets 0 step-kinds.ps step-kinds.r step-reads.Post (λ κs a. step (a .0) (a .1 .0))) where
-  meets : (symbols : List ℕ) → answerBy fresh step symbols ≡ owed base symbols
+  meets : (symbols : List ℕ) → answerBy (fresh base) step symbols ≡ owed base symbols
   unfolding answers owed outlined
   meets symbols =
-      ap (λ (reader : PulseReader). answerBy reader step symbols) (starts tt tt tt)
-      ∙ says-owed (λ s. s .reader) (λ s. s .said) step _ (λ reader symbol. steps tt (reader, (symbol, tt)) (reader, (symbol, tt))) (owed base) unfed (fresh-says-owed base) symbols
+      ap (λ (reader : PulseReader). answerBy reader step symbols) (starts tt (base, tt) (base, tt))
+      ∙ says-owed (λ s. s .reader) (λ s. s .said) step _ (λ reader symbol. steps tt (reader, (symbol, tt)) (reader, (symbol, tt))) (owed base) (unfed base) (fresh-says-owed base) symbols
 
-  first-told : Tells (answerBy fresh step (2 ∷ bytesOf first 0)) first
+  first-told : Tells (answerBy (fresh base) step (2 ∷ bytesOf first 0)) first
   first-told = (0, meets (2 ∷ bytesOf first 0) ∙ minute-told base first 0 first-good [])
 
   -- the minute after it, whose opening gap is its closing one
-  second-told : Tells (answerBy fresh step ((2 ∷ bytesOf first 0) ++ bytesOf second 0)) second
+  second-told : Tells (answerBy (fresh base) step ((2 ∷ bytesOf first 0) ++ bytesOf second 0)) second
   second-told = (0, meets ((2 ∷ bytesOf first 0) ++ bytesOf second 0) ∙ gap-shared base second 0 second-good (2 ∷ []) first 0)
 
-  pub silent-ever : SilentEver (answerBy fresh step) Nothing → ⊥
+  pub silent-ever : SilentEver (answerBy (fresh base) step) Nothing → ⊥
   silent-ever silent = never-both first-told (silent (2 ∷ bytesOf first 0))
 
-  pub refuses-all : RefusesAll (answerBy fresh step) Tells → ⊥
+  pub refuses-all : RefusesAll (answerBy (fresh base) step) Tells → ⊥
   refuses-all none = none (2 ∷ bytesOf first 0) first first-told
 
-  pub repeats-first : RepeatsFirst (answerBy fresh step) Tells → ⊥
+  pub repeats-first : RepeatsFirst (answerBy (fresh base) step) Tells → ⊥
   repeats-first same = different (same (2 ∷ bytesOf first 0) (bytesOf second 0) first second first-told second-told)
 
-  pub silent-after-first : SilentAfterFirst (answerBy fresh step) Tells → ⊥
+  pub silent-after-first : SilentAfterFirst (answerBy (fresh base) step) Tells → ⊥
   silent-after-first none = none (2 ∷ bytesOf first 0) (bytesOf second 0) first second first-told (omega (arith, length-second)) second-told
 
   -- the gap that closes a minute does not open the next: none before a gap and a whole minute more have come
-  pub drops-closing-gap : SilentBefore (answerBy fresh step) Tells 61 → ⊥
+  pub drops-closing-gap : SilentBefore (answerBy (fresh base) step) Tells 61 → ⊥
   drops-closing-gap none =
       none (2 ∷ bytesOf first 0) (bytesOf second 0) first second first-told (omega (arith, length-second)) (omega (arith, length-second)) second-told
 
   -- here at each gap
-  pub restarts-at-gaps : RestartsAtTwos (answerBy fresh step) → ⊥
+  pub restarts-at-gaps : RestartsAtTwos (answerBy (fresh base) step) → ⊥
   restarts-at-gaps forgets =
       never-both first-told
-      (ap (λ (s : List ℕ). answerBy fresh step (2 ∷ s)) (gap-at-end first 0) ∙ forgets (2 ∷ marksOf first 0) [] ∙ meets (2 ∷ []) ∙ too-few)
+      (ap (λ (s : List ℕ). answerBy (fresh base) step (2 ∷ s)) (gap-at-end first 0) ∙ forgets (2 ∷ marksOf first 0) [] ∙ meets (2 ∷ []) ∙ too-few)
 
   -- a stray gap makes it miss the minute that comes after it
-  pub misses-after-stray-gap : ((r : Reading) (head : ℕ) → answerBy fresh step (stray ++ (2 ∷ bytesOf r head)) ≡ Nothing) → ⊥
+  pub misses-after-stray-gap : ((r : Reading) (head : ℕ) → answerBy (fresh base) step (stray ++ (2 ∷ bytesOf r head)) ≡ Nothing) → ⊥
   misses-after-stray-gap misses = never-both (0, meets (stray ++ (2 ∷ bytesOf first 0)) ∙ minute-told base first 0 first-good stray) (misses first 0)

@@ -14,6 +14,7 @@ use Rattle.streams.proofs.Window.{window-push, window-full, window-early}
 use Rattle.streams.proofs.Runs as runs
 use Rattle.dcf77_stream.specs.declared.PulseReader.{PulseReader}
 use Rattle.dcf77_stream.specs.declared.Said.{Said}
+use Rattle.dcf77_stream.specs.declared.Said.{Said}
 use Rattle.dcf77_stream.specs.declared.Said.the-variants.{Nothing}
 use Rattle.dcf77_stream.specs.Said.{kept, filler, unfed, keptBy, taken, betweenGaps, saidOf, sayOf, outlined, owed, answers}
 use Rattle.dcf77_stream.proofs.RingLaws.{kept-fresh, kept-length, kept-taken}
@@ -58,22 +59,36 @@ windowed h p = window-push kept filler h p (omega arith)
 pub keeps-last : (reader : PulseReader) → length (reader .ring) ≡ kept → (symbols : List ℕ) → kept ≤ length symbols → keptBy (fed taken reader symbols) ≡ lastOf kept symbols
 keeps-last reader l symbols k = runs.keeps-last kept (omega arith) keptBy taken kept-taken reader symbols (kept-length reader ∙ l) k
 
+-- what a reader says goes by its own base, which it keeps
+abbrev pub byItsBase : PulseReader → ℕ → Said
+byItsBase reader p = sayOf (reader .base) (push (keptBy reader) p)
+
+of-base : (base : ℕ) (reader : PulseReader) → reader .base ≡ base → (symbols : List ℕ)
+    → saidBy taken byItsBase reader symbols ≡ saidBy taken (λ reader p. sayOf base (push (keptBy reader) p)) reader symbols
+unfolding taken
+of-base base =
+    runs.said-alike taken byItsBase (λ reader p. sayOf base (push (keptBy reader) p)) (λ reader. reader .base ≡ base) (λ reader p h. h)
+    (λ reader p h. ap (λ (b : ℕ). sayOf b (push (keptBy reader) p)) h)
+
 module _ (base : ℕ) where
   -- after every symbol of every stream
   pub fresh-says-owed : (symbols : List ℕ) → answers base symbols ≡ owedTo (owed base) [] symbols
   unfolding answers
-  fresh-says-owed = runs.run kept (omega arith) keptBy taken kept-taken (sayOf base) filler (owed base) (due base) unfed kept-fresh
+  fresh-says-owed symbols =
+      of-base base (unfed base) refl symbols
+      ∙ runs.run kept (omega arith) keptBy taken kept-taken (sayOf base) filler (owed base) (due base) (unfed base) (kept-fresh base) symbols
 
-  -- any two readers, whatever states they were in when they were fed g and h
-  pub any-two-readers : (a b : PulseReader) → length (a .ring) ≡ kept → length (b .ring) ≡ kept
+  -- any two readers of one base, whatever states they were in when they were fed g and h
+  pub any-two-readers : (a b : PulseReader) → a .base ≡ base → b .base ≡ base → length (a .ring) ≡ kept → length (b .ring) ≡ kept
       → (g h : List ℕ) → kept ≤ length g → kept ≤ length h → lastOf kept g ≡ lastOf kept h → (symbols : List ℕ)
-      → drop (length g - 1) (saidBy taken (λ reader p. sayOf base (push (keptBy reader) p)) a (g ++ symbols))
-      ≡ drop (length h - 1) (saidBy taken (λ reader p. sayOf base (push (keptBy reader) p)) b (h ++ symbols))
-  any-two-readers a b k l =
-      runs.two-readers kept (omega arith) keptBy taken kept-taken (sayOf base) a b (kept-length a ∙ k) (kept-length b ∙ l)
+      → drop (length g - 1) (saidBy taken byItsBase a (g ++ symbols))
+      ≡ drop (length h - 1) (saidBy taken byItsBase b (h ++ symbols))
+  any-two-readers a b e f k l g h m n same symbols =
+      rw (of-base base a e (g ++ symbols), of-base base b f (h ++ symbols))
+      (runs.two-readers kept (omega arith) keptBy taken kept-taken (sayOf base) a b (kept-length a ∙ k) (kept-length b ∙ l) g h m n same symbols)
 
   -- "or last sixty-two symbols for DCF77": from the answer to the last symbol of each on, all is the same
   pub two-readers : (g h : List ℕ) → kept ≤ length g → kept ≤ length h → lastOf kept g ≡ lastOf kept h → (symbols : List ℕ)
       → drop (length g - 1) (answers base (g ++ symbols)) ≡ drop (length h - 1) (answers base (h ++ symbols))
   unfolding answers
-  two-readers = any-two-readers unfed unfed refl refl
+  two-readers = any-two-readers (unfed base) (unfed base) refl refl refl refl

@@ -10,7 +10,7 @@ use Rattle.calendar.specs.Calendar.{leapYear, daysIn, daysBefore, yearLength, d
 use Rattle.reading.specs.declared.Reading.{Reading}
 use Rattle.reading.specs.Faults.{number}
 use Rattle.reading.specs.Checks.{dayBad, monthBad, weekdayWrong}
-use Rattle.reading.specs.Years.{base, yearOf}
+use Rattle.reading.specs.Years.{usualBase as base, yearOf, isBase, firstYear}
 use Rattle.pulses.specs.Row.{groupOf, weightOf, pulseAllowed, goodPulses, shareOf, sumOf, sumsOf, upTo, onesFrom, liesWithin, onesOf}
 use Rattle.dcf77_table.specs.Table.{sharedMarks, lastMarks, minuteMarks}
 use Rattle.dcf77.specs.declared.Answer.{Answer}
@@ -64,11 +64,11 @@ unfolding owedTo owed outlined lastOf betweenGaps marksThenGap
 outlines-cleared = refl
 
 reads : readDcf77 base marks8 ≡ Told case8 0
-unfolding readDcf77 readFault saidFault ruleFault weekdayWrong fieldFault dayBad monthBad parityFault odd digitFault lengthBad readingOf says tableFor isLong dueLong zoneBad zoneOf offsetIn minuteMarks sharedMarks lastMarks goodPulses pulseAllowed sumsOf sumOf shareOf upTo groupOf weightOf onesOf liesWithin onesFrom yearOf leapYear daysIn daysBefore yearLength daysBeforeYear dayOfYear dayNumber weekdayOf isMonth lastDay isDay
+unfolding readDcf77 readFault saidFault ruleFault weekdayWrong fieldFault dayBad monthBad parityFault odd digitFault lengthBad readingOf says tableFor isLong dueLong zoneBad zoneOf offsetIn minuteMarks sharedMarks lastMarks goodPulses pulseAllowed sumsOf sumOf shareOf upTo groupOf weightOf onesOf liesWithin onesFrom yearOf leapYear daysIn daysBefore yearLength daysBeforeYear dayOfYear dayNumber weekdayOf isMonth lastDay isDay firstYear isBase
 reads = refl
 
 refuses : readDcf77 base (set marks8 58 0) ≡ Not (record { code = 4; place = 58 })
-unfolding number readDcf77 readFault saidFault parityFault odd digitFault lengthBad readingOf says tableFor isLong minuteMarks sharedMarks lastMarks goodPulses pulseAllowed sumsOf sumOf shareOf upTo groupOf weightOf onesOf liesWithin onesFrom
+unfolding number readDcf77 readFault saidFault parityFault odd digitFault lengthBad readingOf says tableFor isLong minuteMarks sharedMarks lastMarks goodPulses pulseAllowed sumsOf sumOf shareOf upTo groupOf weightOf onesOf liesWithin onesFrom isBase
 refuses = refl
 
 pub case-8 : answers base (2 ∷ marks8) ≡ replicate 60 Nothing ++ (Time case8 0 ∷ [])

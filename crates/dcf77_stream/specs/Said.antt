@@ -20,9 +20,9 @@ kept = 62
 abbrev pub filler : ℕ
 filler = 255
 
--- a reader that has taken no symbol
-abbrev pub unfed : PulseReader
-unfed = record { ring = replicate kept filler; next = 0 }
+-- a reader that has taken no symbol; L12: it takes the base "once, when it is started"
+abbrev pub unfed : ℕ → PulseReader
+unfed base = record { base = base; ring = replicate kept filler; next = 0 }
 
 -- the place of a reader's oldest symbol, which the next one replaces
 abbrev pub oldestAt : PulseReader → ℕ
@@ -34,7 +34,7 @@ keptBy reader = unrolled (reader .ring) (oldestAt reader)
 
 -- the reader after one symbol more
 unfoldable pub taken : PulseReader → ℕ → PulseReader
-taken reader symbol = record { ring = set (reader .ring) (oldestAt reader) symbol; next = oldestAt reader + 1 }
+taken reader symbol = record { base = reader .base; ring = set (reader .ring) (oldestAt reader) symbol; next = oldestAt reader + 1 }
 
 abbrev pub saidOf : Answer → Said
 saidOf (Told r head) = Time r head
@@ -66,6 +66,6 @@ owed base h =
     cond (outlined 62 h) (saidOf (readDcf77 base (drop 1 (lastOf 62 h))))
     (cond (outlined 61 h) (saidOf (readDcf77 base (drop 1 (lastOf 61 h)))) Nothing)
 
--- all the answers of a fresh reader to the symbols that come, one a symbol, as `step` gives them with the next state
+-- all the answers of a fresh reader of this base to the symbols that come, one a symbol, as `step` gives them with the next state
 unfoldable pub answers : ℕ → List ℕ → List Said
-answers base symbols = saidBy taken (λ reader symbol. sayOf base (push (keptBy reader) symbol)) unfed symbols
+answers base symbols = saidBy taken (λ reader symbol. sayOf (reader .base) (push (keptBy reader) symbol)) (unfed base) symbols

@@ -8,7 +8,6 @@ use wire::put::put_at;
 ghost use mathlib.Core.Path.{_≡_};
 ghost use Prim.Native.Nat.{_+_, _≤_, _<_};
 ghost use lib.ListN.{length, drop};
-ghost use Rattle.reading.specs.Years.{base};
 ghost use Rattle.dcf77.specs.Reader.{readDcf77};
 ghost use Rattle.streams.specs.Stream.{push, placeOf, unrolled};
 ghost use Rattle.dcf77_stream.specs.Said.{kept, unfed, keptBy, taken, marksThenGap, betweenGaps, saidOf, sayOf, owed};
@@ -22,6 +21,7 @@ pub enum Said {
 
 // The last 62 symbols: the next one goes to place `next` or, from 62 on, to the first; the oldest stands there.
 pub struct PulseReader {
+    pub base: u16,
     pub ring: [u8; 62],
     pub next: usize,
 }
@@ -73,23 +73,23 @@ fn between_gaps(window: &[u8], from: usize) -> bool
 }
 
 // What whole-minute reading says of the symbols from a place on.
-fn read_from(window: &[u8], from: usize) -> Said
+fn read_from(base: u16, window: &[u8], from: usize) -> Said
     requires { ⌜ from ≤ length (now window) ⌝ }
     ensures { λ r. ⌜ r ≡ saidOf (readDcf77 base (drop from (now (window .entry)))) ⌝ }
 {
-    said_of(Dcf77::read(&window[from..]))
+    said_of(Dcf77::read(base, &window[from..]))
 }
 
 // What is said of 62 symbols: a gap, 60 or 59 marks of 0 or 1, and a gap at the end.
-fn say(window: &[u8]) -> Said
+fn say(base: u16, window: &[u8]) -> Said
     requires { ⌜ length (now window) ≡ kept ⌝ }
     ensures { λ r. ⌜ r ≡ sayOf base (now (window .entry)) ⌝ }
 {
     if between_gaps(window, 0) {
-        return read_from(window, 1);
+        return read_from(base, window, 1);
     }
     if between_gaps(window, 1) {
-        return read_from(window, 2);
+        return read_from(base, window, 2);
     }
     Said::Nothing
 }
@@ -105,18 +105,18 @@ fn place_of(next: usize) -> usize
 }
 
 // What is said of a ring whose oldest symbol stands at a place.
-fn say_unrolled(ring: &[u8], oldest: usize) -> Said
+fn say_unrolled(base: u16, ring: &[u8], oldest: usize) -> Said
     requires { ⌜ (length (now ring) ≡ kept) × (oldest < kept) ⌝ }
     ensures { λ r. ⌜ r ≡ sayOf base (unrolled (now (ring .entry)) oldest) ⌝ }
 {
     let mut window = [255u8; 62];
     put_at(&mut window, 0, &ring[oldest..]);
     put_at(&mut window, 62 - oldest, &ring[..oldest]);
-    say(&window)
+    say(base, &window)
 }
 
 // What is said of a ring whose newest symbol stands at a place: nothing, unless that is a gap.
-fn say_closed(ring: &[u8], newest: usize) -> Said
+fn say_closed(base: u16, ring: &[u8], newest: usize) -> Said
     requires { ⌜ (length (now ring) ≡ kept) × (newest < kept) ⌝ }
     ensures { λ r. ⌜ r ≡ sayOf base (unrolled (now (ring .entry)) (newest + 1)) ⌝ }
 {
@@ -124,15 +124,16 @@ fn say_closed(ring: &[u8], newest: usize) -> Said
         return Said::Nothing;
     }
     let oldest = place_of(newest + 1);
-    say_unrolled(ring, oldest)
+    say_unrolled(base, ring, oldest)
 }
 
 impl PulseReader {
-    // A reader that has taken no symbol.
-    pub fn fresh() -> Self
-        ensures { λ r. ⌜ r ≡ unfed ⌝ }
+    // A reader that has taken no symbol. Any base is taken here, and one that is none refused with each minute.
+    pub fn fresh(base: u16) -> Self
+        ensures { λ r. ⌜ r ≡ unfed base ⌝ }
     {
         PulseReader {
+            base,
             ring: [255u8; 62],
             next: 0,
         }
@@ -140,27 +141,32 @@ impl PulseReader {
 
     // Takes one symbol, any byte.
     pub fn step(self, symbol: u8) -> Stepped
-        ensures { λ r. ⌜ r ≡ record { reader = taken self symbol; said = sayOf base (push (keptBy self) symbol) } ⌝ }
+        ensures { λ r. ⌜ r ≡ record { reader = taken self symbol; said = sayOf (self .base) (push (keptBy self) symbol) } ⌝ }
     {
+        let base = self.base;
         let at = self.next;
         let place = place_of(at);
         let old = self.ring;
         let mut new = old;
         new[place] = symbol;
-        let said = say_closed(&new, place);
+        let said = say_closed(base, &new, place);
         let next = place + 1;
         Stepped {
-            reader: PulseReader { ring: new, next },
+            reader: PulseReader {
+                base,
+                ring: new,
+                next,
+            },
             said,
         }
     }
 }
 
 // The answer after the last of the symbols, from a fresh reader on.
-pub fn answer_after(symbols: &[u8]) -> Said
+pub fn answer_after(base: u16, symbols: &[u8]) -> Said
     ensures { λ r. ⌜ r ≡ owed base (now (symbols .entry)) ⌝ }
 {
-    let mut reader = PulseReader::fresh();
+    let mut reader = PulseReader::fresh(base);
     let mut said = Said::Nothing;
     let mut i = 0;
     while i < symbols.len() {

@@ -1,5 +1,5 @@
 -- What the verdict on a string, or on what a writer is given, tells: its length, its bytes, and the reading.
-use mathlib.Core.Bool.{false, not}
+use mathlib.Core.Bool.{true, false, not}
 use mathlib.Core.List.{List}
 use mathlib.Core.Path.{_≡_, _∙_}
 use Prim.Native.Nat.{ℕ, _≤_, _<_}
@@ -12,12 +12,13 @@ use Rattle.wire.specs.Layout.{goodPlaces, printables}
 use Rattle.wire.proofs.LayoutLaws.{good-within, printables-within}
 use Rattle.reading.specs.declared.Reading.{Reading}
 use Rattle.reading.specs.declared.Fault.{Fault}
-use Rattle.reading.specs.declared.Fault.the-variants.{Length, Byte}
+use Rattle.reading.specs.declared.Fault.the-variants.{Length, Byte, OtherBase}
 use Rattle.reading.specs.declared.Verdict.{Verdict}
 use Rattle.reading.specs.declared.Verdict.the-variants.{Good, Bad}
 use Rattle.reading.specs.Faults.{number}
-use Rattle.reading.specs.Checks.{checkedOf}
-use Rattle.reading.proofs.CheckLaws.{first-good}
+use Rattle.reading.specs.Years.{isBase}
+use Rattle.reading.specs.Checks.{soundOf, checkedOf}
+use Rattle.reading.proofs.CheckLaws.{first-good, base-and-sound, sound-checked}
 use Rattle.reading.proofs.WrittenLaws.{then-good}
 use Rattle.strings.specs.declared.Answer.the-variants.{No}
 use Rattle.strings.specs.Checks.{faultOf, answerOf}
@@ -33,14 +34,18 @@ module _ (base : ℕ) (s : List ℕ) where
   unfolding faultIn
   wrong-length h = rw (ne-eqb (length s) size h)
 
-  pub wrong-byte : (good : ℕ) → length s ≡ size → good ≡ goodPlaces layout s → good < size → Bad (Byte good) ≡ faultIn base s
+  pub other-base : length s ≡ size → isBase base ≡ false → Bad OtherBase ≡ faultIn base s
   unfolding faultIn
-  wrong-byte good l e h = rw (eq-eqb (length s) size l, ← e, lt-ltb good size h)
+  other-base l b = rw (eq-eqb (length s) size l, b)
 
-  pub said-last : (v : Verdict) (good : ℕ) → length s ≡ size → good ≡ goodPlaces layout s → size ≤ good
+  pub wrong-byte : (good : ℕ) → length s ≡ size → isBase base ≡ true → good ≡ goodPlaces layout s → good < size → Bad (Byte good) ≡ faultIn base s
+  unfolding faultIn
+  wrong-byte good l b e h = rw (eq-eqb (length s) size l, b, ← e, lt-ltb good size h)
+
+  pub said-last : (v : Verdict) (good : ℕ) → length s ≡ size → isBase base ≡ true → good ≡ goodPlaces layout s → size ≤ good
       → v ≡ faultOf (readingOf base s) (weekdaySaid s) (offsetWrong s) (markWrong s) places → v ≡ faultIn base s
   unfolding faultIn
-  said-last v good l e h f = f ∙ rw (eq-eqb (length s) size l, ← e, le-ltb good size h)
+  said-last v good l b e h f = f ∙ rw (eq-eqb (length s) size l, b, ← e, le-ltb good size h)
 
   pub refused : (x : Fault) → Bad x ≡ faultIn base s → No (number x) ≡ readErlangen base s
   unfolding readErlangen
@@ -54,6 +59,7 @@ module _ (base : ℕ) (s : List ℕ) where
 
 pub record Accepted (base : ℕ) (s : List ℕ) : Type 0 where
   pub size-is : length s ≡ size
+  pub base-good : isBase base ≡ true
   pub bytes : goodPlaces layout s ≡ length s
   pub sounds : Sound (readingOf base s) (weekdaySaid s) (offsetWrong s) (markWrong s)
 
@@ -62,16 +68,22 @@ module _ (base : ℕ) (s : List ℕ) where
   unfolding faultIn
   accepted-is e =
       let a = first-good (not (eqb (length s) size)) _ _ e in
-      let b = first-good (ltb (goodPlaces layout s) size) _ _ (a .1) in
+      let d = first-good (not (isBase base)) _ _ (a .1) in
+      let b = first-good (ltb (goodPlaces layout s) size) _ _ (d .1) in
       let l = eqb-true (length s) size (not-false _ (a .0)) in
       let g = ltb-false (goodPlaces layout s) size (b .0) in
-      record { size-is = l; bytes = omega (arith, good-within layout s); sounds = sound _ _ _ _ places (b .1) }
+      record {
+        size-is = l;
+        base-good = not-false _ (d .0);
+        bytes = omega (arith, good-within layout s);
+        sounds = sound _ _ _ _ places (b .1);
+      }
 
   pub is-accepted : Accepted base s → faultIn base s ≡ Good
   unfolding faultIn
   is-accepted p =
       let g : size ≤ goodPlaces layout s = omega (arith, p .bytes, p .size-is) in
-      rw (eq-eqb (length s) size (p .size-is), le-ltb (goodPlaces layout s) size g) (faultless _ _ _ _ places (p .sounds))
+      rw (eq-eqb (length s) size (p .size-is), p .base-good, le-ltb (goodPlaces layout s) size g) (faultless _ _ _ _ places (p .sounds))
 
 -- ---- what a writer is given
 
@@ -87,8 +99,9 @@ module _ (base : ℕ) (r : Reading) (position : List ℕ) (room : ℕ) where
   unfolding writeFault lengthBad carriedOf
   carried-is e =
       let a = first-good (lengthBad position room) _ _ e in
-      let b = first-good (ltb (printables position) positionSize) _ _ (a .1) in
-      let d = then-good (checkedOf base r) _ (b .1) in
+      let k = first-good (not (isBase base)) _ _ (a .1) in
+      let b = first-good (ltb (printables position) positionSize) _ _ (k .1) in
+      let d = then-good (soundOf base r) _ (b .1) in
       let f = first-good (notCarried (r .quality)) _ _ (d .1) in
       let n = neither (ltb room size) (not (eqb (length position) positionSize)) (a .0) in
       let l = eqb-true (length position) positionSize (not-false _ (n .1)) in
@@ -97,7 +110,7 @@ module _ (base : ℕ) (r : Reading) (position : List ℕ) (room : ℕ) where
         roomy = ltb-false room size (n .0);
         size-is = l;
         printing = omega (arith, printables-within position);
-        checked = d .0;
+        checked = sound-checked base r (not-false _ (k .0)) (d .0);
         quality = f .0;
       }
 
@@ -105,10 +118,12 @@ module _ (base : ℕ) (r : Reading) (position : List ℕ) (room : ℕ) where
   unfolding writeFault lengthBad carriedOf
   is-carried p =
       let g : positionSize ≤ printables position = omega (arith, p .size-is, p .printing) in
+      let k = base-and-sound base r (p .checked) in
       rw (
         le-ltb room size (p .roomy),
         eq-eqb (length position) positionSize (p .size-is),
+        k .0,
         le-ltb (printables position) positionSize g,
-        p .checked,
+        k .1,
         p .quality,
       )

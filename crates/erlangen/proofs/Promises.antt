@@ -19,6 +19,7 @@ use Rattle.reading.specs.declared.Written.the-variants.{Length, No}
 use Rattle.reading.specs.declared.Stamp.the-variants.{Refused}
 use Rattle.reading.specs.Faults.{number}
 use Rattle.reading.specs.Writing.{writtenOf, filled}
+use Rattle.reading.specs.Years.{isBase}
 use Rattle.reading.specs.Universal.{utcOf}
 use Rattle.reading.specs.Checks.{checkedOf}
 use Rattle.reading.specs.Stamps.{hasStamp, stampNumber, stampOf}
@@ -170,23 +171,23 @@ exactly base s = (there, back)
 
 -- ---- "for code 2 it is the lowest bad place"
 
-pub lowest-place : (base : ℕ) (s : List ℕ) (k : ℕ) → length s ≡ size → goodPlaces layout s ≡ k → k < size
+pub lowest-place : (base : ℕ) (s : List ℕ) (k : ℕ) → length s ≡ size → isBase base ≡ true → goodPlaces layout s ≡ k → k < size
     → (faultIn base s ≡ Bad (Byte k)) × (allowedAt layout s k ≡ false) × ((i : ℕ) → i < k → allowedAt layout s i ≡ true)
 unfolding faultIn
-lowest-place base s k l e h =
+lowest-place base s k l d e h =
     let b = first-bad layout s k e (omega (arith, layout-length)) (omega arith) in
-    (rw (eq-eqb (length s) size l, e, lt-ltb k size h), b .0, b .1)
+    (rw (eq-eqb (length s) size l, d, e, lt-ltb k size h), b .0, b .1)
 
-pub lowest-bad-byte : (base : ℕ) (s : List ℕ) → length s ≡ size → (k : ℕ) → k < size → allowedAt layout s k ≡ false
+pub lowest-bad-byte : (base : ℕ) (s : List ℕ) → length s ≡ size → isBase base ≡ true → (k : ℕ) → k < size → allowedAt layout s k ≡ false
     → ((i : ℕ) → i < k → allowedAt layout s i ≡ true) → readErlangen base s ≡ Refuses (number (Byte k))
-lowest-bad-byte base s l k h e f =
+lowest-bad-byte base s l d k h e f =
     let n = first-bad-is layout s k (omega (arith, layout-length)) (omega arith) e f in
-    sym (refused base s (Byte k) (sym (lowest-place base s k l n h .0)))
+    sym (refused base s (Byte k) (sym (lowest-place base s k l d n h .0)))
 
 -- "printable (2, place within it)": the writer tells the lowest place of the position part whose byte is not
-pub lowest-unprintable : (base : ℕ) (r : Reading) (position : List ℕ) (room k : ℕ) → size ≤ room → length position ≡ positionSize → k < positionSize
+pub lowest-unprintable : (base : ℕ) (r : Reading) (position : List ℕ) (room k : ℕ) → size ≤ room → isBase base ≡ true → length position ≡ positionSize → k < positionSize
     → printableAt position k ≡ false → ((i : ℕ) → i < k → printableAt position i ≡ true) → writeFault base r position room ≡ Bad (Byte k)
 unfolding writeFault lengthBad
-lowest-unprintable base r position room k h l b e f =
+lowest-unprintable base r position room k h d l b e f =
     let n = first-unprintable-is position k (omega arith) e f in
-    rw (le-ltb room size h, eq-eqb (length position) positionSize l, n, lt-ltb k positionSize b)
+    rw (le-ltb room size h, eq-eqb (length position) positionSize l, d, n, lt-ltb k positionSize b)

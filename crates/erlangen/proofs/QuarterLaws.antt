@@ -14,10 +14,10 @@ use Rattle.laws.proofs.Tested.{at}
 use Rattle.calendar.specs.Calendar.{leapYear, daysIn, isMonth, lastDay, isDay, isDate}
 use Rattle.wire.specs.Layout.{printable, printables}
 use Rattle.reading.specs.declared.Verdict.the-variants.{Good}
-use Rattle.reading.specs.Years.{base, inHundred}
+use Rattle.reading.specs.Years.{usualBase as base, inHundred, isBase, firstYear}
 use Rattle.reading.specs.Offset.{unit, westmost, eastmost, offsetGood}
 use Rattle.reading.specs.Leap.{sixtyBad}
-use Rattle.reading.specs.Checks.{timeBad, dateBad, checkedOf}
+use Rattle.reading.specs.Checks.{timeBad, dateBad, checkedOf, soundOf}
 use Rattle.strings.specs.declared.Answer.the-variants.{Time}
 use Rattle.erlangen.specs.Layout.{size}
 use Rattle.erlangen.specs.Offset.{wholeUnits}
@@ -32,7 +32,7 @@ how-many = refl
 
 -- 2024-02-29 12:34:56 at any of them is written
 pub each-offset-written : (z : ℤ) → offsetGood z ≡ true → writeFault base (reading z) spaces size ≡ Good
-unfolding reading writeFault lengthBad carriedOf notCarried printables printable checkedOf timeBad dateBad inHundred isDate isMonth isDay lastDay daysIn leapYear sixtyBad
+unfolding reading writeFault lengthBad carriedOf notCarried printables printable checkedOf timeBad dateBad inHundred isDate isMonth isDay lastDay daysIn leapYear sixtyBad firstYear isBase soundOf
 each-offset-written z e = rw e
 
 -- and read back

@@ -174,6 +174,7 @@ module _ (base : ℕ) (s : List ℕ) (p : Accepted base s) where
   reading-checked =
       let q = p .sounds in
       is-checked base (readingOf base s) (record {
+        base-good = p .base-good;
         hour = q .hour;
         minute = q .minute;
         second = q .second;

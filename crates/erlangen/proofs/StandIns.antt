@@ -11,7 +11,7 @@ use Rattle.reading.specs.declared.Reading.{Reading}
 use Rattle.reading.specs.declared.Refusal.{Refusal}
 use Rattle.reading.specs.declared.Fault.the-variants.{Byte}
 use Rattle.reading.specs.Faults.{number}
-use Rattle.reading.specs.Years.{base}
+use Rattle.reading.specs.Years.{usualBase as base, isBase}
 use Rattle.reading.specs.Writing.{filled}
 use Rattle.reading.proofs.CheckLaws.{clash}
 use Rattle.strings.specs.declared.Answer.{Answer}
@@ -27,7 +27,7 @@ unfolding reading
 different e = let z : hourAhead ≡ pos 0 = ap (λ (r : Reading). r .offset .0) e in let n : _≡_ {A = ℕ} 4 0 = cc in omega arith
 
 zeros-refused : readErlangen base (replicate size 0) ≡ No (number (Byte 0))
-unfolding readErlangen faultIn layout goodPlaces allowed within beside exactly from either packed
+unfolding readErlangen faultIn layout goodPlaces allowed within beside exactly from either packed isBase
 zeros-refused = refl
 
 -- "a reader that refuses everything (demand 2 accepts all written frames)"

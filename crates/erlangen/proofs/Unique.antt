@@ -24,7 +24,7 @@ pub for-clock-string-one : Coincide 1 for-clock-string-kinds.ps for-clock-string
 for-clock-string-one κs a x y e f p q = cc
 
 pub write-one : (κs : Lfts 2) (a : Dens κs write-kinds.ps) (x y : resT write-kinds.r κs .Denot) (e f : AtExit (endedOf 2 write-kinds.ps write-kinds.r) κs)
-    → write-reads.Post κs a x e → write-reads.Post κs a y f → (x ≡ y) × (now (e .1 .1 .1 .0) ≡ now (f .1 .1 .1 .0))
+    → write-reads.Post κs a x e → write-reads.Post κs a y f → (x ≡ y) × (now (e .1 .1 .1 .1 .0) ≡ now (f .1 .1 .1 .1 .0))
 write-one κs a x y e f p q = (cc, cc)
 
 -- ---- what the crate's own files call

@@ -12,11 +12,11 @@ use Rattle.calendar.specs.Calendar.{leapYear, daysIn, lastDay, isMonth, isDay, 
 use Rattle.reading.specs.declared.Reading.{Reading}
 use Rattle.reading.specs.declared.Verdict.the-variants.{Good}
 use Rattle.reading.specs.Faults.{number}
-use Rattle.reading.specs.Years.{base, inHundred, yearOf}
+use Rattle.reading.specs.Years.{usualBase as base, inHundred, yearOf, isBase, firstYear}
 use Rattle.reading.specs.Offset.{west, east, offsetGood}
 use Rattle.reading.specs.Universal.{utcMinutes, onDay, utcOf}
 use Rattle.reading.specs.Leap.{closesWithLeap, leapMinute, sixtyBad}
-use Rattle.reading.specs.Checks.{timeBad, dateBad, checkedOf, dayBad, monthBad, weekdayWrong}
+use Rattle.reading.specs.Checks.{timeBad, dateBad, checkedOf, dayBad, monthBad, weekdayWrong, soundOf}
 use Rattle.strings.specs.declared.Answer.{Answer}
 use Rattle.strings.specs.declared.Answer.the-variants.{Time, No}
 use Rattle.strings.specs.Checks.{weekdayBad, faultOf}
@@ -118,7 +118,7 @@ unfolding reading string bytesOf dateBytes timeBytes offsetBytes flagBytes isBeh
 worked-bytes = refl
 
 pub worked-carried : writeFault base (reading hourAhead) spaces size ≡ Good
-unfolding reading writeFault lengthBad carriedOf notCarried printables printable checkedOf timeBad dateBad inHundred isDate isMonth isDay lastDay daysIn leapYear offsetGood west east sixtyBad
+unfolding reading writeFault lengthBad carriedOf notCarried printables printable checkedOf timeBad dateBad inHundred isDate isMonth isDay lastDay daysIn leapYear offsetGood west east sixtyBad firstYear isBase soundOf
 worked-carried = refl
 
 -- `+14:00`, `-12:00`, and a leap second with its mark
@@ -171,5 +171,5 @@ pub worked-read :
     × (readErlangen base (string (on 0 2 3) (behind 0 0 0 0) none) ≡ refused 6 11)
     × (map (readErlangen base) offset-wrong ≡ replicate 8 (refused 8 24))
     × (map (readErlangen base) leap-wrong ≡ replicate 3 (refused 9 20))
-unfolding reading string readErlangen faultIn readingOf coastingSaid weekdaySaid offsetWrong markWrong shows layout goodPlaces allowed within beside exactly from either packed digit pair yearOf offsetOf offsetBad wholeUnits unitsOf tooFar signed faultOf dayBad monthBad weekdayBad weekdayWrong sixtyBad leapMinute closesWithLeap utcOf utcMinutes onDay west east isMonth isDay lastDay weekdayOf dayNumber dayOfYear daysBeforeYear daysBefore daysIn yearLength leapYear number
+unfolding reading string readErlangen faultIn readingOf coastingSaid weekdaySaid offsetWrong markWrong shows layout goodPlaces allowed within beside exactly from either packed digit pair yearOf offsetOf offsetBad wholeUnits unitsOf tooFar signed faultOf dayBad monthBad weekdayBad weekdayWrong sixtyBad leapMinute closesWithLeap utcOf utcMinutes onDay west east isMonth isDay lastDay weekdayOf dayNumber dayOfYear daysBeforeYear daysBefore daysIn yearLength leapYear number firstYear isBase
 worked-read = (refl, refl, refl, refl, refl, refl, refl, refl, refl, refl)

@@ -142,6 +142,7 @@ module _ (base : ℕ) (r : Reading) (coasting : Bool) (position : List ℕ) (roo
       let f = facts in
       record {
         size-is = bytes-length r coasting position (p .size-is);
+        base-good = f .base-good;
         bytes = fit-good (bytes-fit r coasting position (p .size-is) (p .printing));
         sounds = rw reading-back (record {
           hour = f .hour;

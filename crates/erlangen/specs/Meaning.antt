@@ -10,6 +10,7 @@ use Rattle.reading.specs.declared.Reading.{Reading}
 use Rattle.reading.specs.declared.Fault.the-variants.{Length, Byte}
 use Rattle.reading.specs.declared.Verdict.{Verdict}
 use Rattle.reading.specs.Faults.{first}
+use Rattle.reading.specs.Checks.{onBase}
 use Rattle.reading.specs.Years.{yearOf}
 use Rattle.strings.specs.declared.Places.{Places}
 use Rattle.strings.specs.declared.Answer.{Answer}
@@ -57,12 +58,13 @@ readingOf base s = record {
   quality = cond (shows s 32 hash) 15 0;
 }
 
--- the first fault of a string: its length, a byte, or what it says
+-- the first fault of a string: its length, the base, a byte, or what it says
 unfoldable pub faultIn : ℕ → List ℕ → Verdict
 faultIn base s =
     first (not (eqb (length s) size)) Length
+    (onBase base
     (first (ltb (goodPlaces layout s) size) (Byte (goodPlaces layout s))
-    (faultOf (readingOf base s) (weekdaySaid s) (offsetWrong s) (markWrong s) places))
+    (faultOf (readingOf base s) (weekdaySaid s) (offsetWrong s) (markWrong s) places)))
 
 -- the time that a string says with its coasting mark, or the refusal of its first fault
 unfoldable pub readErlangen : ℕ → List ℕ → Answer

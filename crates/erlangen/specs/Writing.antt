@@ -15,7 +15,7 @@ use Rattle.reading.specs.declared.Verdict.the-variants.{Good}
 use Rattle.reading.specs.Faults.{first}
 use Rattle.reading.specs.Writing.{andThen}
 use Rattle.reading.specs.Universal.{dateOf}
-use Rattle.reading.specs.Checks.{checkedOf}
+use Rattle.reading.specs.Checks.{onBase, soundOf}
 use Rattle.erlangen.specs.Layout.{size, positionSize, stx, etx, space, dot, colon, semicolon, plus, minus, hash, star, letterS, bang, letterA, letterL}
 use Rattle.erlangen.specs.Offset.{isBehind, minutesOf}
 pub use Rattle.strings.specs.Letters.{mark}
@@ -55,13 +55,14 @@ notCarried quality = leb 1 quality && leb quality 14
 unfoldable pub lengthBad : List ℕ → ℕ → Bool
 lengthBad position room = ltb room size || not (eqb (length position) positionSize)
 
--- the checks that every writer makes of a reading, then whether this format carries it
+-- the checks that every writer makes of a reading, beside whatever base, then whether this format carries it
 unfoldable pub carriedOf : ℕ → Reading → Verdict
-carriedOf base r = andThen (checkedOf base r) (first (notCarried (r .quality)) NotCarried Good)
+carriedOf base r = andThen (soundOf base r) (first (notCarried (r .quality)) NotCarried Good)
 
--- the first fault of what a writer is given
+-- the first fault of what a writer is given: 19 goes before a bad byte of the position, which goes before the reading's own faults
 unfoldable pub writeFault : ℕ → Reading → List ℕ → ℕ → Verdict
 writeFault base r position room =
     first (lengthBad position room) Length
+    (onBase base
     (first (ltb (printables position) positionSize) (Byte (printables position))
-    (carriedOf base r))
+    (carriedOf base r)))

@@ -8,6 +8,7 @@ use reading::Fault;
 use reading::Reading;
 use reading::Verdict;
 use reading::faults::refusal_of;
+use reading::years::is_base;
 use reading::years::year_of;
 use strings::Answer;
 use strings::Places;
@@ -18,7 +19,6 @@ use wire::digits::two_digits;
 use wire::layout::byte_at;
 ghost use mathlib.Core.Path.{_≡_};
 ghost use mathlib.Core.Bool.{cond};
-ghost use Rattle.reading.specs.Years.{base};
 ghost use Rattle.strings.specs.Checks.{faultOf};
 ghost use Rattle.erlangen.specs.Meaning.{places, shows, weekdaySaid, coastingSaid, offsetWrong, markWrong, readingOf, readErlangen};
 
@@ -71,12 +71,12 @@ fn quality_of(failed: bool) -> u8
     0
 }
 
-fn reading_of(s: &[u8]) -> Reading
+fn reading_of(base: u16, s: &[u8]) -> Reading
     ensures { λ r. ⌜ r ≡ readingOf base (now (s .entry)) ⌝ }
 {
     let offset = offset_of(shows(s, 24, b'-'), two_digits(s, 25), two_digits(s, 28));
     Reading {
-        year: year_of(two_digits(s, 7)),
+        year: year_of(base, two_digits(s, 7)),
         month: two_digits(s, 4),
         day: two_digits(s, 1),
         hour: two_digits(s, 14),
@@ -97,16 +97,19 @@ fn said_fault(s: &[u8], r: Reading) -> Verdict
 }
 
 // The form comes first, so that a string of another form costs no more than finding that out.
-pub fn for_clock_string(s: &[u8]) -> Answer
+pub fn for_clock_string(base: u16, s: &[u8]) -> Answer
     ensures { λ a. ⌜ a ≡ readErlangen base (now (s .entry)) ⌝ }
 {
     if s.len() != Erlangen::LENGTH {
         return Answer::No(refusal_of(Fault::Length));
     }
+    if !is_base(base) {
+        return Answer::No(refusal_of(Fault::OtherBase));
+    }
     let good = good_places(s);
     if good < Erlangen::LENGTH {
         return Answer::No(refusal_of(Fault::Byte(good)));
     }
-    let r = reading_of(s);
+    let r = reading_of(base, s);
     told(said_fault(s, r), r, coasting_said(s))
 }

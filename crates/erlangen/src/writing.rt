@@ -9,8 +9,9 @@ use reading::LocalMinusUtc;
 use reading::Reading;
 use reading::Verdict;
 use reading::Written;
-use reading::checks::checked;
+use reading::checks::sound;
 use reading::faults::refusal_of;
+use reading::years::is_base;
 use strings::letters::mark;
 use wire::digits::ones;
 use wire::digits::tens;
@@ -21,7 +22,6 @@ ghost use mathlib.Core.Bool.{cond};
 ghost use mathlib.Core.List.{_++_};
 ghost use Prim.Native.Nat.{_≤_};
 ghost use lib.ListN.{length, drop};
-ghost use Rattle.reading.specs.Years.{base};
 ghost use Rattle.reading.specs.Writing.{writtenOf, filled};
 ghost use Rattle.erlangen.specs.Layout.{size, positionSize, minus, plus};
 ghost use Rattle.erlangen.specs.Writing.{dateBytes, timeBytes, offsetBytes, flagBytes, bytesOf, notCarried, lengthBad, carriedOf, writeFault};
@@ -142,10 +142,10 @@ fn length_bad(position: &[u8], room: usize) -> bool
     (room < Erlangen::LENGTH) | (position.len() != POSITION)
 }
 
-fn carried(r: Reading) -> Verdict
+fn carried(base: u16, r: Reading) -> Verdict
     ensures { λ v. ⌜ v ≡ carriedOf base r ⌝ }
 {
-    match checked(r) {
+    match sound(base, r) {
         Verdict::Bad(fault) => Verdict::Bad(fault),
         Verdict::Good => {
             if not_carried(r.quality) {
@@ -156,26 +156,29 @@ fn carried(r: Reading) -> Verdict
     }
 }
 
-fn write_fault(r: Reading, position: &[u8], room: usize) -> Verdict
+fn write_fault(base: u16, r: Reading, position: &[u8], room: usize) -> Verdict
     ensures { λ v. ⌜ v ≡ writeFault base r (now (position .entry)) room ⌝ }
 {
     if length_bad(position, room) {
         return Verdict::Bad(Fault::Length);
     }
+    if !is_base(base) {
+        return Verdict::Bad(Fault::OtherBase);
+    }
     let good = unprintable_at(position);
     if good < POSITION {
         return Verdict::Bad(Fault::Byte(good));
     }
-    carried(r)
+    carried(base, r)
 }
 
 impl Erlangen {
     // Everything is decided before the first byte is stored.
-    pub fn write(r: Reading, coasting: bool, position: &[u8], out: &mut [u8]) -> Written
+    pub fn write(base: u16, r: Reading, coasting: bool, position: &[u8], out: &mut [u8]) -> Written
         ensures { λ w. ⌜ w ≡ writtenOf (writeFault base r (now (position .entry)) (length (now (out .entry)))) size ⌝ }
         ensures { λ w. ⌜ now (out .exit) ≡ filled (writeFault base r (now (position .entry)) (length (now (out .entry)))) (bytesOf r coasting (now (position .entry))) (now (out .entry)) ⌝ }
     {
-        match write_fault(r, position, out.len()) {
+        match write_fault(base, r, position, out.len()) {
             Verdict::Bad(fault) => Written::No(refusal_of(fault)),
             Verdict::Good => {
                 lay(r, coasting, position, out);

@@ -15,7 +15,7 @@ use Rattle.calendar.specs.Calendar.{leapYear, dayOfYear, isDate}
 use Rattle.calendar.proofs.DateLaws.{is-date}
 use Rattle.calendar.proofs.TableLaws.{OnDay, on-day, of-year}
 use Rattle.reading.specs.declared.Reading.{Reading}
-use Rattle.reading.specs.Years.{inHundred}
+use Rattle.reading.specs.Years.{isBase, inHundred}
 use Rattle.reading.specs.Offset.{west, east, opposite}
 use Rattle.reading.specs.Universal.{dateOf}
 use Rattle.reading.proofs.YearLaws.{digits-of, year-in}
@@ -54,7 +54,7 @@ record Bounds (v : List ℕ) : Type 0 where
   half : said v halfHour < 2
   quality-high : said v quality < 16
 
-module _ (base : ℕ) (v : List ℕ) (w : Values v) (d : Digits v) (s : Sound base v) where
+module _ (base : ℕ) (v : List ℕ) (g : isBase base ≡ true) (w : Values v) (d : Digits v) (s : Sound base v) where
   abbrev r : Reading
   r = readingOf base v
 
@@ -94,6 +94,7 @@ module _ (base : ℕ) (v : List ℕ) (w : Values v) (d : Digits v) (s : Sound ba
   unfolding readingOf addedIn
   reading-carried = record {
     checked = record {
+      base-good = g;
       hour = s .hour;
       minute = s .minute;
       second = s .second;

@@ -1,7 +1,7 @@
 -- The frame of a reading that a frame carries is read as that reading, and a frame that is read is the frame of its reading,
 -- which it carries. Both hold for any base year.
 use mathlib.Core.Path.{_≡_, refl, sym, ap, subst, _∙_}
-use mathlib.Core.Bool.{false, not}
+use mathlib.Core.Bool.{true, false, not}
 use mathlib.Core.List.{List}
 use Prim.Native.Nat.{ℕ, _%_, _<_}
 use native.Mathlib.Omega.{arith}
@@ -9,6 +9,7 @@ use borrow.Author.Tests.{eqb-true, eq-eqb, ltb-false, le-ltb, not-false}
 use lib.Dec.{eqb, ltb}
 use lib.ListN.{length, getD}
 use Rattle.reading.specs.declared.Reading.{Reading}
+use Rattle.reading.specs.Years.{isBase}
 use Rattle.reading.specs.declared.Verdict.{Verdict}
 use Rattle.reading.specs.declared.Verdict.the-variants.{Good, Bad}
 use Rattle.reading.proofs.CheckLaws.{first-good, clash}
@@ -50,7 +51,7 @@ module _ (base : ℕ) (r : Reading) (c : Carried base r) where
   faultless : faultIn base (frameOf r) ≡ Good
   unfolding faultIn
   faultless =
-      rw (eq-eqb (length (frameOf r)) frameLength (length-frame r), frame-good, frame-sums, not-odd)
+      rw (eq-eqb (length (frameOf r)) frameLength (length-frame r), c .checked .base-good, frame-good, frame-sums, not-odd)
       (sound-values base (valuesOf r (parityOf r)) false (values-digits base r (parityOf r) c) refl (values-are-sound base r (parityOf r) c))
 
   pub frame-read : readFrame base (frameOf r) ≡ Time r
@@ -61,6 +62,7 @@ module _ (base : ℕ) (r : Reading) (c : Carried base r) where
 
 pub record Accepted (base : ℕ) (s : List ℕ) (r : Reading) : Type 0 where
   pub long : length s ≡ frameLength
+  pub base-good : isBase base ≡ true
   pub good : goodPulses framePulses s ≡ frameLength
   pub digits : Digits (sumsOf framePulses s)
   pub even : onesFrom 1 parityPlace s % 2 ≡ 0
@@ -81,10 +83,12 @@ accepted base s r e =
     let v = sumsOf framePulses s in
     let t = told-good (faultIn base s) (readingOf base v) r e in
     let long = first-good (not (eqb (length s) frameLength)) _ _ (t .0) in
-    let good = first-good (ltb (goodPulses framePulses s) frameLength) _ _ (long .1) in
+    let based = first-good (not (isBase base)) _ _ (long .1) in
+    let good = first-good (ltb (goodPulses framePulses s) frameLength) _ _ (based .1) in
     let p = values-sound base v (isOdd s) (good .1) in
     record {
       long = eqb-true (length s) frameLength (not-false _ (long .0));
+      base-good = not-false _ (based .0);
       good = omega (arith, ltb-false (goodPulses framePulses s) frameLength (good .0), good-in-table framePulses s, frame-length);
       digits = p .0;
       even = even-ones s (p .1);
@@ -98,14 +102,14 @@ module _ (base : ℕ) (s : List ℕ) (r : Reading) (a : Accepted base s r) where
 
   pub reading-is-carried : Carried base r
   reading-is-carried =
-      subst (Carried base) (a .is) (reading-carried base (sumsOf framePulses s) (sums-fit s) (a .digits) (a .sound))
+      subst (Carried base) (a .is) (reading-carried base (sumsOf framePulses s) (a .base-good) (sums-fit s) (a .digits) (a .sound))
 
   -- the values of its groups are those of the reading, with the parity that it has
   same-values : valuesOf r (said v parity) ≡ v
   unfolding v
   same-values =
       ap (λ (x : Reading). valuesOf x (said v parity)) (sym (a .is))
-      ∙ values-again base (sumsOf framePulses s) (sums-fit s) (a .digits) (a .sound)
+      ∙ values-again base (sumsOf framePulses s) (a .base-good) (sums-fit s) (a .digits) (a .sound)
 
   same-row : row framePulses (valuesOf r (said v parity)) ≡ s
   unfolding v

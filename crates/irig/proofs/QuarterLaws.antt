@@ -45,7 +45,7 @@ module _ (base : ℕ) (s : List ℕ) (r : Reading) (e : readFrame base s ≡ Tim
   twice-the-half-hours =
       let a = accepted base s r e in
       subst (λ (x : Reading). west (x .offset .0) + east (x .offset .0) ≡ 2 * halvesIn (sumsOf framePulses s)) (a .is)
-      (offset-twice base (sumsOf framePulses s) (sums-fit s) (a .digits) (a .sound))
+      (offset-twice base (sumsOf framePulses s) (a .base-good) (sums-fit s) (a .digits) (a .sound))
 
   pub never-odd : oddQuarter (r .offset .0) ≡ false
   never-odd = carried-parts base r (accepted-carried base s r e) .1

@@ -6,8 +6,9 @@ use Prim.Native.Nat.{ℕ, _<_, _≤_}
 use native.Mathlib.Omega.{arith}
 use borrow.Author.Tests.{eq-eqb, ne-eqb, lt-ltb, le-ltb}
 use lib.ListN.{length}
-use Rattle.reading.specs.declared.Fault.the-variants.{Length, Byte}
+use Rattle.reading.specs.declared.Fault.the-variants.{Length, Byte, OtherBase}
 use Rattle.reading.specs.Faults.{number}
+use Rattle.reading.specs.Years.{isBase}
 use Rattle.pulses.specs.declared.Scan.{Scan}
 use Rattle.pulses.specs.Row.{goodPulses, sumsOf, scanOf}
 use Rattle.pulses.proofs.GoodLaws.{allowedAt, first-bad}
@@ -33,16 +34,20 @@ pub wrong-length : (base : ℕ) (s : List ℕ) → (length s ≡ frameLength →
 unfolding readFrame faultIn
 wrong-length base s d = rw (ne-eqb (length s) frameLength d)
 
-module _ (base : ℕ) (s : List ℕ) (long : length s ≡ frameLength) where
+pub other-base : (base : ℕ) (s : List ℕ) → length s ≡ frameLength → isBase base ≡ false → readFrame base s ≡ No (number OtherBase)
+unfolding readFrame faultIn
+other-base base s long b = rw (eq-eqb (length s) frameLength long, b)
+
+module _ (base : ℕ) (s : List ℕ) (long : length s ≡ frameLength) (based : isBase base ≡ true) where
   pub bad-pulse : goodPulses framePulses s < frameLength → readFrame base s ≡ No (number (Byte (goodPulses framePulses s)))
   unfolding readFrame faultIn
-  bad-pulse h = rw (eq-eqb (length s) frameLength long, lt-ltb (goodPulses framePulses s) frameLength h)
+  bad-pulse h = rw (eq-eqb (length s) frameLength long, based, lt-ltb (goodPulses framePulses s) frameLength h)
 
   -- what is read where every pulse is allowed
   pub good-pulses : frameLength ≤ goodPulses framePulses s
       → readFrame base s ≡ answerOf (valuesFault base (sumsOf framePulses s) (isOdd s)) (readingOf base (sumsOf framePulses s))
   unfolding readFrame faultIn
-  good-pulses h = rw (eq-eqb (length s) frameLength long, le-ltb (goodPulses framePulses s) frameLength h)
+  good-pulses h = rw (eq-eqb (length s) frameLength long, based, le-ltb (goodPulses framePulses s) frameLength h)
 
   -- "for code 2 it is the lowest bad place"
   pub lowest-bad-place : (i : ℕ) → i < frameLength → ((j : ℕ) → j < i → allowedAt framePulses s j ≡ true) → allowedAt framePulses s i ≡ false

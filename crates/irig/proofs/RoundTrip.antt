@@ -12,14 +12,14 @@ use lib.ListN.{length, getD, take, drop}
 use Rattle.reading.specs.declared.Reading.{Reading}
 use Rattle.reading.specs.declared.Verdict.the-variants.{Good}
 use Rattle.reading.specs.declared.Fault.the-variants.{OutsideYears}
-use Rattle.reading.specs.declared.Stamp.the-variants.{At, Refused}
+use Rattle.reading.specs.declared.Stamp.the-variants.{Refused}
 use Rattle.reading.specs.declared.Written.the-variants.{Length}
 use Rattle.reading.specs.Faults.{number}
 use Rattle.reading.specs.Writing.{writtenOf, filled}
 use Rattle.reading.specs.Offset.{unit, east}
 use Rattle.reading.specs.Universal.{utcOf}
 use Rattle.reading.specs.Checks.{checkedOf}
-use Rattle.reading.specs.Stamps.{hasStamp, stampNumber, stampOf}
+use Rattle.reading.specs.Stamps.{hasStamp, stampNumber, stampIs, stampOf}
 use Rattle.reading.proofs.WrittenLaws.{length-is}
 use Rattle.reading.proofs.StampLaws.{is-stamp, refused-by-12}
 use Rattle.pulses.specs.Row.{groupOf, weightOf, bit}
@@ -66,11 +66,11 @@ module _ (base : ℕ) (s : List ℕ) (r : Reading) (e : readFrame base s ≡ Tim
       (w .0 ∙ ap Length (sym long), w .1 ∙ rw (accepted-frame, long))
 
   -- stamping refuses it by 12 alone
-  pub accepted-stamp : (stampOf base r ≡ At (stampNumber (utcOf r) (r .second))) ⊎ (stampOf base r ≡ Refused (number OutsideYears))
+  pub accepted-stamp : (stampOf base r ≡ stampIs (stampNumber (utcOf r) (r .second))) ⊎ (stampOf base r ≡ Refused (number OutsideYears))
   accepted-stamp = go (hasStamp (utcOf r .date .year)) refl
     where
       go : (b : Bool) → hasStamp (utcOf r .date .year) ≡ b
-          → (stampOf base r ≡ At (stampNumber (utcOf r) (r .second))) ⊎ (stampOf base r ≡ Refused (number OutsideYears))
+          → (stampOf base r ≡ stampIs (stampNumber (utcOf r) (r .second))) ⊎ (stampOf base r ≡ Refused (number OutsideYears))
       go true y = inl (is-stamp base r (stampNumber (utcOf r) (r .second)) (record { checked = accepted-checked; year = y; value = refl }))
       go false y = inr (refused-by-12 base r accepted-checked y)
 

@@ -9,7 +9,7 @@ use lib.ListN.{length, getD, drop, replicate}
 use Rattle.reading.specs.declared.Reading.{Reading}
 use Rattle.reading.specs.declared.Refusal.{Refusal}
 use Rattle.reading.specs.Writing.{filled}
-use Rattle.reading.specs.Years.{base}
+use Rattle.reading.specs.Years.{usualBase as base}
 use Rattle.reading.specs.Offset.{west, east, offsetGood}
 use Rattle.pulses.specs.Row.{groupOf, pulseOf, pulseFor, row}
 use Rattle.irig_table.specs.Table.{framePulses}

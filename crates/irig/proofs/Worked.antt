@@ -26,10 +26,10 @@ use Rattle.reading.specs.declared.Written.{Written}
 use Rattle.reading.specs.declared.Written.the-variants.{Length, No as Unwritten}
 use Rattle.reading.specs.Faults.{number}
 use Rattle.reading.specs.Writing.{writtenOf}
-use Rattle.reading.specs.Years.{base, inHundred, yearOf}
+use Rattle.reading.specs.Years.{usualBase as base, inHundred, yearOf, isBase, firstYear}
 use Rattle.reading.specs.Offset.{west, east, offsetGood, localOf}
 use Rattle.reading.specs.Leap.{sixtyBad}
-use Rattle.reading.specs.Checks.{timeBad, dateBad, checkedOf}
+use Rattle.reading.specs.Checks.{timeBad, dateBad, checkedOf, soundOf}
 use Rattle.pulses.specs.Row.{groupOf, weightOf, pulseAllowed, pulseOf, digitOf, pulseFor, row, goodPulses, shareOf, sumOf, sumsOf, upTo, onesFrom}
 use Rattle.irig_table.specs.Table.{framePulses}
 use Rattle.irig_table.specs.Paper.{markDue}
@@ -101,7 +101,7 @@ pub cases-read :
     ∷ []
     )
     ≡ 0 ∷ 7 ∷ 0 ∷ 8 ∷ 0 ∷ 8 ∷ []
-unfolding number readFrame faultIn valuesFault fieldsFault isOdd readingOf yearIn monthDayIn secondIn minuteIn hourIn dayIn digitsIn halvesIn addedIn dayBad secondOfDayWrong offsetBad frameOf parityOf valuesOf groupsOf goodPulses pulseAllowed sumsOf sumOf shareOf upTo row pulseFor pulseOf digitOf groupOf weightOf framePulses onesFrom dayOfYear daysBefore daysIn leapYear inYear yearLength monthDay monthUpTo yearOf west east offsetGood localOf sixtyBad
+unfolding number readFrame faultIn valuesFault fieldsFault isOdd readingOf yearIn monthDayIn secondIn minuteIn hourIn dayIn digitsIn halvesIn addedIn dayBad secondOfDayWrong offsetBad frameOf parityOf valuesOf groupsOf goodPulses pulseAllowed sumsOf sumOf shareOf upTo row pulseFor pulseOf digitOf groupOf weightOf framePulses onesFrom dayOfYear daysBefore daysIn leapYear inYear yearLength monthDay monthUpTo yearOf west east offsetGood localOf sixtyBad firstYear isBase
 cases-read = refl
 
 -- "case 10's become +56 and -48 accepted, +57 and -49 refused"; "an odd quarter .. is 11": +1, -1, +23, +55 and -47
@@ -113,13 +113,13 @@ pub cases-written :
     ∷ []
     )
     ≡ 0 ∷ 0 ∷ 8 ∷ 0 ∷ 8 ∷ 11 ∷ 11 ∷ 11 ∷ 11 ∷ 11 ∷ []
-unfolding number writeFault carriedOf oddQuarter checkedOf timeBad dateBad inHundred isDate isMonth isDay lastDay daysIn leapYear offsetGood west east sixtyBad
+unfolding number writeFault carriedOf oddQuarter checkedOf timeBad dateBad inHundred isDate isMonth isDay lastDay daysIn leapYear offsetGood west east sixtyBad firstYear isBase soundOf
 cases-written = refl
 
 -- ---- a reading at any offset that one may have passes the checks, and at no odd quarter it is written and read
 
 at-offset-checked : (z : ℤ) → offsetGood z ≡ true → checkedOf base (atOffset z) ≡ Good
-unfolding checkedOf timeBad dateBad inHundred isDate isMonth isDay lastDay daysIn leapYear sixtyBad
+unfolding checkedOf timeBad dateBad inHundred isDate isMonth isDay lastDay daysIn leapYear sixtyBad firstYear isBase soundOf
 at-offset-checked z e = rw e
 
 pub at-offset-carried : (z : ℤ) → offsetGood z ≡ true → oddQuarter z ≡ false → carriedOf base (atOffset z) ≡ Good

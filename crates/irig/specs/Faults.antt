@@ -11,7 +11,7 @@ use Rattle.reading.specs.declared.Fault.the-variants.{Length, Byte, Digit, Pari
 use Rattle.reading.specs.Faults.{number, first}
 use Rattle.reading.specs.Universal.{utcOf}
 use Rattle.reading.specs.Leap.{sixtyBad}
-use Rattle.reading.specs.Checks.{hourBad, minuteBad, secondBad}
+use Rattle.reading.specs.Checks.{onBase, hourBad, minuteBad, secondBad}
 use Rattle.pulses.specs.Row.{goodPulses, sumsOf, onesFrom, overNine}
 use Rattle.irig_table.specs.Table.{framePulses, seconds, minutes, hours, days, tensOfDays, years, tensOfYears, deletion}
 use Rattle.irig.specs.declared.Answer.{Answer}
@@ -98,8 +98,9 @@ valuesFault base v odd =
 unfoldable pub faultIn : ℕ → List ℕ → Verdict
 faultIn base s =
     first (not (eqb (length s) frameLength)) Length
+    (onBase base
     (first (ltb (goodPulses framePulses s) frameLength) (Byte (goodPulses framePulses s))
-    (valuesFault base (sumsOf framePulses s) (isOdd s)))
+    (valuesFault base (sumsOf framePulses s) (isOdd s))))
 
 -- the time, or the refusal of the first fault
 abbrev pub answerOf : Verdict → Reading → Answer

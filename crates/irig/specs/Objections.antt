@@ -1,5 +1,5 @@
 -- What can be wrong with an IEEE 1344 frame, and with what is to be written as one, with code and place.
--- Conditions and codes are those of 01's table, as amended by L5 and L9, a place is that of "the first byte of the lowest offending field".
+-- Conditions and codes are those of 01's table, as amended by L5, L9 and L12, a place is that of "the first byte of the lowest offending field".
 -- (Of an input of another length, code 2 may hold too: code 1 goes before it.)
 use mathlib.Core.Bool.{true, not, _||_}
 use mathlib.Core.List.{List, [], _∷_, _++_}
@@ -12,7 +12,7 @@ use Rattle.reading.specs.Universal.{utcOf}
 use Rattle.reading.specs.Leap.{sixtyBad}
 use Rattle.reading.specs.Checks.{hourBad, minuteBad, secondBad}
 use Rattle.reading.specs.Refusals.{Objection, objection, quiet, Owed}
-use Rattle.reading.specs.Objections.{readingObjections}
+use Rattle.reading.specs.Objections.{baseObjection, readingObjections}
 use Rattle.pulses.specs.Row.{goodPulses, sumsOf, overNine}
 use Rattle.irig_table.specs.Table.{framePulses, seconds, minutes, hours, days, tensOfDays, years, tensOfYears, deletion}
 use Rattle.irig.specs.declared.Answer.{Answer}
@@ -25,6 +25,7 @@ use Rattle.irig.specs.Faults.{isOdd}
 unfoldable pub saidObjections : ℕ → List ℕ → List ℕ → List Objection
 saidObjections base s v =
     objection (not (eqb (length s) 100)) 1 0
+    ∷ baseObjection base
     ∷ objection (ltb (goodPulses framePulses s) 100) 2 (goodPulses framePulses s)
     ∷ objection (overNine v seconds) 3 1
     ∷ objection (overNine v minutes) 3 10
@@ -52,10 +53,10 @@ writeObjections base r room = objection (ltb room 100) 1 0 ∷ readingObjections
 
 -- the codes that reader and writer can answer with
 abbrev pub readCodes : List ℕ
-readCodes = 1 ∷ 2 ∷ 3 ∷ 4 ∷ 15 ∷ 16 ∷ 7 ∷ 8 ∷ 9 ∷ 10 ∷ []
+readCodes = 1 ∷ 19 ∷ 2 ∷ 3 ∷ 4 ∷ 15 ∷ 16 ∷ 7 ∷ 8 ∷ 9 ∷ 10 ∷ []
 
 abbrev pub writeCodes : List ℕ
-writeCodes = 1 ∷ 15 ∷ 16 ∷ 17 ∷ 8 ∷ 9 ∷ 11 ∷ []
+writeCodes = 1 ∷ 19 ∷ 15 ∷ 16 ∷ 17 ∷ 8 ∷ 9 ∷ 11 ∷ []
 
 -- what is promised of an answer: where a time is told nothing is objected, and a refusal is the one to give
 abbrev pub AnswerOwed : List Objection → List ℕ → Answer → Type 0

@@ -29,7 +29,6 @@ ghost use Prim.Native.Nat.{_<_};
 ghost use lib.Dec.{eqb};
 ghost use lib.ListN.{length};
 ghost use Rattle.calendar.specs.Calendar.{leapYear, inYear};
-ghost use Rattle.reading.specs.Years.{base};
 ghost use Rattle.reading.specs.Offset.{offsetGood};
 ghost use Rattle.pulses.specs.Row.{overNine};
 ghost use Rattle.irig_table.specs.Table.{minus, secondOfDay};
@@ -169,7 +168,7 @@ fn offset_bad(v: [u32; 32], offset: LocalMinusUtc) -> bool
 
 // ---- the first fault
 
-fn fields_fault(v: [u32; 32], r: Reading) -> Verdict
+fn fields_fault(base: u16, v: [u32; 32], r: Reading) -> Verdict
     requires { ⌜ Small v ⌝ }
     requires { ⌜ r ≡ readingOf base v ⌝ }
     ensures { λ x. ⌜ x ≡ fieldsFault base v ⌝ }
@@ -189,7 +188,7 @@ fn fields_fault(v: [u32; 32], r: Reading) -> Verdict
     )
 }
 
-pub(crate) fn values_fault(v: [u32; 32], r: Reading, odd: bool) -> Verdict
+pub(crate) fn values_fault(base: u16, v: [u32; 32], r: Reading, odd: bool) -> Verdict
     requires { ⌜ Small v ⌝ }
     requires { ⌜ r ≡ readingOf base v ⌝ }
     ensures { λ x. ⌜ x ≡ valuesFault base v odd ⌝ }
@@ -200,6 +199,6 @@ pub(crate) fn values_fault(v: [u32; 32], r: Reading, odd: bool) -> Verdict
         over_nine(v, HOURS),
         over_nine(v, DAYS) | over_nine(v, TENS_OF_DAYS),
         over_nine(v, YEARS) | over_nine(v, TENS_OF_YEARS),
-        parity_fault(odd, fields_fault(v, r)),
+        parity_fault(odd, fields_fault(base, v, r)),
     )
 }

@@ -6,7 +6,6 @@ use reading::Reading;
 use reading::years::year_of;
 ghost use mathlib.Core.Path.{_≡_};
 ghost use Prim.Native.Nat.{_+_, _*_, _<_, _≤_};
-ghost use Rattle.reading.specs.Years.{base};
 ghost use Rattle.pulses.specs.Row.{firstData};
 ghost use Rattle.irig_table.specs.Table.{parity};
 ghost use Rattle.irig.specs.Meaning.{said, isSet, Small, dayIn, halvesIn, readingOf, secondOfDayAt};
@@ -89,11 +88,11 @@ pub(crate) fn halves_in(v: [u32; 32]) -> u8
     2 * digit(v, OFFSET_HOURS) + digit(v, HALF_HOUR)
 }
 
-pub(crate) fn reading_of(v: [u32; 32]) -> Reading
+pub(crate) fn reading_of(base: u16, v: [u32; 32]) -> Reading
     requires { ⌜ Small v ⌝ }
     ensures { λ r. ⌜ r ≡ readingOf base v ⌝ }
 {
-    let year = year_of(two(v, YEARS));
+    let year = year_of(base, two(v, YEARS));
     let date = month_day(is_leap(year), day_in(v));
     let offset = amount_of(is_set(v, MINUS), halves_in(v)).local();
     Reading {

@@ -17,7 +17,6 @@ ghost use mathlib.Core.Path.{_≡_};
 ghost use mathlib.Core.List.{_++_};
 ghost use Prim.Native.Nat.{_≤_};
 ghost use lib.ListN.{length, drop};
-ghost use Rattle.reading.specs.Years.{base};
 ghost use Rattle.irig.specs.Faults.{frameLength};
 ghost use Rattle.irig.specs.Writing.{groupsOf, valuesOf, frameOf, writeFault};
 
@@ -79,13 +78,13 @@ fn values_of(r: Reading) -> [u32; 32]
     groups_of(r, day, bit(is_minus(added)), halves_of(added))
 }
 
-pub(crate) fn write_fault(r: Reading, room: usize) -> Verdict
+pub(crate) fn write_fault(base: u16, r: Reading, room: usize) -> Verdict
     ensures { λ v. ⌜ v ≡ writeFault base r room ⌝ }
 {
     if room < Ieee1344::LENGTH {
         return Verdict::Bad(Fault::Length);
     }
-    if let Verdict::Bad(fault) = checked(r) {
+    if let Verdict::Bad(fault) = checked(base, r) {
         return Verdict::Bad(fault);
     }
     // Last: an offset out of range is 8, although it may be odd.

@@ -1,13 +1,13 @@
-// The IEEE 1344 frame, a hundred pulses that say a time: its reader and its writer. Both take any bytes and any reading.
+// The IEEE 1344 frame, a hundred pulses that say a time: its reader and its writer. Both take any base, any bytes and any reading.
 use reading::Fault;
 use reading::Reading;
 use reading::Refusal;
 use reading::Verdict;
 use reading::Written;
 use reading::faults::refusal_of;
+use reading::years::is_base;
 ghost use mathlib.Core.Path.{_≡_};
 ghost use lib.ListN.{length};
-ghost use Rattle.reading.specs.Years.{base};
 ghost use Rattle.reading.specs.Writing.{writtenOf, filled};
 ghost use Rattle.irig.specs.Faults.{frameLength, answerOf, readFrame};
 ghost use Rattle.irig.specs.Writing.{frameOf, writeFault};
@@ -33,11 +33,14 @@ impl Ieee1344 {
     // The place of the last of them.
     pub const LAST: usize = 99;
 
-    pub fn read(s: &[u8]) -> Answer
+    pub fn read(base: u16, s: &[u8]) -> Answer
         ensures { λ a. ⌜ a ≡ readFrame base (now (s .entry)) ⌝ }
     {
         if s.len() != Ieee1344::LENGTH {
             return Answer::No(refusal_of(Fault::Length));
+        }
+        if !is_base(base) {
+            return Answer::No(refusal_of(Fault::OtherBase));
         }
         let scan = irig_table::scanned(s);
         let good = scan.good;
@@ -45,15 +48,15 @@ impl Ieee1344 {
             return Answer::No(refusal_of(Fault::Byte(good)));
         }
         let v = scan.sums;
-        let r = fields::reading_of(v);
-        told(faults::values_fault(v, r, faults::is_odd(s)), r)
+        let r = fields::reading_of(base, v);
+        told(faults::values_fault(base, v, r, faults::is_odd(s)), r)
     }
 
-    pub fn write(r: Reading, out: &mut [u8]) -> Written
+    pub fn write(base: u16, r: Reading, out: &mut [u8]) -> Written
         ensures { λ w. ⌜ w ≡ writtenOf (writeFault base r (length (now (out .entry)))) frameLength ⌝ }
         ensures { λ w. ⌜ now (out .exit) ≡ filled (writeFault base r (length (now (out .entry)))) (frameOf r) (now (out .entry)) ⌝ }
     {
-        let verdict = groups::write_fault(r, out.len());
+        let verdict = groups::write_fault(base, r, out.len());
         if let Verdict::Bad(fault) = verdict {
             return Written::No(refusal_of(fault));
         }

@@ -26,7 +26,7 @@ use Rattle.irig_stream.specs.Said.{kept, saidOf, sayOf, owed}
 
 -- the codes that it can say: with the outline there is no other length
 abbrev pub saidCodes : List ℕ
-saidCodes = 2 ∷ 3 ∷ 4 ∷ 15 ∷ 16 ∷ 7 ∷ 8 ∷ 9 ∷ 10 ∷ []
+saidCodes = 19 ∷ 2 ∷ 3 ∷ 4 ∷ 15 ∷ 16 ∷ 7 ∷ 8 ∷ 9 ∷ 10 ∷ []
 
 said-due : (base : ℕ) (w : List ℕ) (x : Refusal) (a : Answer) → AnswerOwed (readObjections base w) readCodes a → saidOf a ≡ No x → due (readObjections base w) x ≡ true
 said-due base w x (Told r) p e = let z : _≡_ {A = ℕ} 0 1 = cc in clash z

@@ -8,7 +8,7 @@ use lib.IntN.{pos, natAbs}
 use lib.ListN.{length, take, drop, replicate, length-drop}
 use Rattle.reading.specs.declared.Reading.{Reading}
 use Rattle.reading.specs.declared.Verdict.the-variants.{Good}
-use Rattle.reading.specs.Years.{base}
+use Rattle.reading.specs.Years.{usualBase as base}
 use Rattle.reading.specs.Offset.{west, east, offsetGood}
 use Rattle.irig.specs.Offset.{oddQuarter}
 use Rattle.irig.specs.Writing.{frameOf, carriedOf}
@@ -67,45 +67,45 @@ too-few = refl
 abbrev pub answerBy : PulseReader → (PulseReader → ℕ → Stepped) → List ℕ → Said
 answerBy fresh step pulses = newestOf Nothing (answersOf (λ s. s .reader) (λ s. s .said) step fresh pulses)
 
-module _ (fresh : PulseReader) (step : PulseReader → ℕ → Stepped)
-    (starts : Meets 0 fresh-kinds.ps fresh-kinds.r fresh-reads.Post (λ κs a. fresh))
+module _ (fresh : ℕ → PulseReader) (step : PulseReader → ℕ → Stepped)
+    (starts : Meets 0 fresh-kinds.ps fresh-kinds.r fresh-reads.Post (λ κs a. fresh (a .0)))
     (steps : Meets 0 step-kinds.ps step-kinds.r step-reads.Post (λ κs a. step (a .0) (a .1 .0))) where
-  meets : (pulses : List ℕ) → answerBy fresh step pulses ≡ owed base pulses
+  meets : (pulses : List ℕ) → answerBy (fresh base) step pulses ≡ owed base pulses
   unfolding answers owed
   meets pulses =
-      ap (λ (reader : PulseReader). answerBy reader step pulses) (starts tt tt tt)
-      ∙ says-owed (λ s. s .reader) (λ s. s .said) step _ (λ reader pulse. steps tt (reader, (pulse, tt)) (reader, (pulse, tt))) (owed base) unfed (fresh-says-owed base) pulses
+      ap (λ (reader : PulseReader). answerBy reader step pulses) (starts tt (base, tt) (base, tt))
+      ∙ says-owed (λ s. s .reader) (λ s. s .said) step _ (λ reader pulse. steps tt (reader, (pulse, tt)) (reader, (pulse, tt))) (owed base) (unfed base) (fresh-says-owed base) pulses
 
-  first-told : Tells (answerBy fresh step (frameOf first)) first
+  first-told : Tells (answerBy (fresh base) step (frameOf first)) first
   first-told = meets (frameOf first) ∙ frame-told base first first-good []
 
-  second-told : Tells (answerBy fresh step (frameOf first ++ frameOf second)) second
+  second-told : Tells (answerBy (fresh base) step (frameOf first ++ frameOf second)) second
   second-told = meets (frameOf first ++ frameOf second) ∙ frame-told base second second-good (frameOf first)
 
-  pub silent-ever : SilentEver (answerBy fresh step) Nothing → ⊥
+  pub silent-ever : SilentEver (answerBy (fresh base) step) Nothing → ⊥
   silent-ever silent = never-both first-told (silent (frameOf first))
 
-  pub refuses-all : RefusesAll (answerBy fresh step) Tells → ⊥
+  pub refuses-all : RefusesAll (answerBy (fresh base) step) Tells → ⊥
   refuses-all none = none (frameOf first) first first-told
 
-  pub repeats-first : RepeatsFirst (answerBy fresh step) Tells → ⊥
+  pub repeats-first : RepeatsFirst (answerBy (fresh base) step) Tells → ⊥
   repeats-first same = different (same (frameOf first) (frameOf second) first second first-told second-told)
 
-  pub silent-after-first : SilentAfterFirst (answerBy fresh step) Tells → ⊥
+  pub silent-after-first : SilentAfterFirst (answerBy (fresh base) step) Tells → ⊥
   silent-after-first none = none (frameOf first) (frameOf second) first second first-told (omega (arith, length-frame second)) second-told
 
   -- none before a hundred more pulses have come
-  pub drops-closing-mark : SilentBefore (answerBy fresh step) Tells kept → ⊥
+  pub drops-closing-mark : SilentBefore (answerBy (fresh base) step) Tells kept → ⊥
   drops-closing-mark none =
       let rest = drop 1 (frameOf first) in
       let l : length rest ≡ 99 = length-drop 1 (frameOf first) ∙ simp (length-frame first) in
       let t = meets (frameOf first ++ rest) ∙ mark-shared base first first-good [] first in
       none (frameOf first) rest first first first-told (omega arith) (omega arith) t
 
-  pub restarts-at-marks : RestartsAtTwos (answerBy fresh step) → ⊥
+  pub restarts-at-marks : RestartsAtTwos (answerBy (fresh base) step) → ⊥
   restarts-at-marks forgets =
-      never-both first-told (ap (answerBy fresh step) (closes-with-mark first) ∙ forgets (take 99 (frameOf first)) [] ∙ meets (2 ∷ []) ∙ too-few)
+      never-both first-told (ap (answerBy (fresh base) step) (closes-with-mark first) ∙ forgets (take 99 (frameOf first)) [] ∙ meets (2 ∷ []) ∙ too-few)
 
   -- "without keeping the older candidate alive": a stray mark nine pulses before a frame makes it miss that frame
-  pub loses-older-candidate : ((r : Reading) → answerBy fresh step (stray ++ frameOf r) ≡ Nothing) → ⊥
+  pub loses-older-candidate : ((r : Reading) → answerBy (fresh base) step (stray ++ frameOf r) ≡ Nothing) → ⊥
   loses-older-candidate misses = never-both (meets (stray ++ frameOf first) ∙ frame-told base first first-good stray) (misses first)

@@ -9,7 +9,7 @@ use lib.ListN.{set, drop, replicate}
 use Rattle.calendar.specs.Calendar.{leapYear, inYear, yearLength}
 use Rattle.laws.specs.Tests.{among}
 use Rattle.reading.specs.Faults.{number}
-use Rattle.reading.specs.Years.{base, yearOf}
+use Rattle.reading.specs.Years.{usualBase as base, yearOf, isBase, firstYear}
 use Rattle.reading.specs.Offset.{west, east, offsetGood}
 use Rattle.pulses.specs.Row.{groupOf, weightOf, pulseAllowed, goodPulses, shareOf, sumOf, sumsOf, upTo, onesFrom}
 use Rattle.pulses.specs.Outline.{inOutline, outlineOf}
@@ -58,7 +58,7 @@ unfolding owedTo owed sayOf lastOf outlineOf inOutline groupOf framePulses upTo 
 outlines-7 = refl
 
 read-7 : readFrame base pulses7 ≡ Not (record { code = 7; place = 80 })
-unfolding number readFrame faultIn valuesFault fieldsFault isOdd secondIn minuteIn hourIn dayIn digitsIn yearIn dayBad secondOfDayWrong goodPulses pulseAllowed sumsOf sumOf shareOf upTo ones groupOf weightOf framePulses onesFrom leapYear inYear yearLength yearOf
+unfolding number readFrame faultIn valuesFault fieldsFault isOdd secondIn minuteIn hourIn dayIn digitsIn yearIn dayBad secondOfDayWrong goodPulses pulseAllowed sumsOf sumOf shareOf upTo ones groupOf weightOf framePulses onesFrom leapYear inYear yearLength yearOf firstYear isBase
 read-7 = refl
 
 pub case-7 : answers base pulses7 ≡ replicate 99 Nothing ++ (No (record { code = 7; place = 80 }) ∷ [])

@@ -22,9 +22,9 @@ kept = 100
 abbrev pub filler : ℕ
 filler = 255
 
--- a reader that has taken no pulse
-abbrev pub unfed : PulseReader
-unfed = record { ring = replicate kept filler; next = 0 }
+-- a reader that has taken no pulse; L12: it takes the base "once, when it is started"
+abbrev pub unfed : ℕ → PulseReader
+unfed base = record { base = base; ring = replicate kept filler; next = 0 }
 
 -- the place of a reader's oldest pulse, which the next one replaces
 abbrev pub oldestAt : PulseReader → ℕ
@@ -36,7 +36,7 @@ keptBy reader = unrolled (reader .ring) (oldestAt reader)
 
 -- the reader after one pulse more
 unfoldable pub taken : PulseReader → ℕ → PulseReader
-taken reader pulse = record { ring = set (reader .ring) (oldestAt reader) pulse; next = oldestAt reader + 1 }
+taken reader pulse = record { base = reader .base; ring = set (reader .ring) (oldestAt reader) pulse; next = oldestAt reader + 1 }
 
 abbrev pub saidOf : Answer → Said
 saidOf (Told r) = Time r
@@ -50,6 +50,6 @@ sayOf base w = cond (outlineOf framePulses w) (saidOf (readFrame base w)) Nothin
 unfoldable pub owed : ℕ → List ℕ → Said
 owed base h = cond (leb kept (length h)) (sayOf base (lastOf kept h)) Nothing
 
--- all the answers of a fresh reader to the pulses that come, one a pulse, as `step` gives them with the next state
+-- all the answers of a fresh reader of this base to the pulses that come, one a pulse, as `step` gives them with the next state
 unfoldable pub answers : ℕ → List ℕ → List Said
-answers base pulses = saidBy taken (λ reader pulse. sayOf base (push (keptBy reader) pulse)) unfed pulses
+answers base pulses = saidBy taken (λ reader pulse. sayOf (reader .base) (push (keptBy reader) pulse)) (unfed base) pulses

@@ -8,7 +8,6 @@ use wire::put::put_at;
 ghost use mathlib.Core.Path.{_≡_};
 ghost use Prim.Native.Nat.{_+_, _<_};
 ghost use lib.ListN.{length};
-ghost use Rattle.reading.specs.Years.{base};
 ghost use Rattle.streams.specs.Stream.{push, placeOf, unrolled};
 ghost use Rattle.irig_stream.specs.Said.{kept, unfed, keptBy, taken, saidOf, sayOf, owed};
 
@@ -21,6 +20,7 @@ pub enum Said {
 
 // The last hundred pulses: the next one goes to place `next` or, from 100 on, to the first; the oldest stands there.
 pub struct PulseReader {
+    pub base: u16,
     pub ring: [u8; 100],
     pub next: usize,
 }
@@ -41,11 +41,11 @@ fn said_of(answer: Answer) -> Said
 }
 
 // What is said of a window; the whole frame is read only where the outline is there.
-fn say(window: &[u8]) -> Said
+fn say(base: u16, window: &[u8]) -> Said
     ensures { λ r. ⌜ r ≡ sayOf base (now (window .entry)) ⌝ }
 {
     if irig_table::outlined(window) {
-        said_of(Ieee1344::read(window))
+        said_of(Ieee1344::read(base, window))
     } else {
         Said::Nothing
     }
@@ -62,18 +62,18 @@ fn place_of(next: usize) -> usize
 }
 
 // What is said of a ring whose oldest pulse stands at a place.
-fn say_unrolled(ring: &[u8], oldest: usize) -> Said
+fn say_unrolled(base: u16, ring: &[u8], oldest: usize) -> Said
     requires { ⌜ (length (now ring) ≡ kept) × (oldest < kept) ⌝ }
     ensures { λ r. ⌜ r ≡ sayOf base (unrolled (now (ring .entry)) oldest) ⌝ }
 {
     let mut window = [255u8; 100];
     put_at(&mut window, 0, &ring[oldest..]);
     put_at(&mut window, 100 - oldest, &ring[..oldest]);
-    say(&window)
+    say(base, &window)
 }
 
 // What is said of a ring whose newest pulse stands at a place: nothing, unless both ends of its window are marks.
-fn say_closed(ring: &[u8], newest: usize) -> Said
+fn say_closed(base: u16, ring: &[u8], newest: usize) -> Said
     requires { ⌜ (length (now ring) ≡ kept) × (newest < kept) ⌝ }
     ensures { λ r. ⌜ r ≡ sayOf base (unrolled (now (ring .entry)) (newest + 1)) ⌝ }
 {
@@ -84,15 +84,16 @@ fn say_closed(ring: &[u8], newest: usize) -> Said
     if ring[oldest] != 2 {
         return Said::Nothing;
     }
-    say_unrolled(ring, oldest)
+    say_unrolled(base, ring, oldest)
 }
 
 impl PulseReader {
-    // A reader that has taken no pulse.
-    pub fn fresh() -> Self
-        ensures { λ r. ⌜ r ≡ unfed ⌝ }
+    // A reader that has taken no pulse. Any base is taken here, and one that is none refused with each frame.
+    pub fn fresh(base: u16) -> Self
+        ensures { λ r. ⌜ r ≡ unfed base ⌝ }
     {
         PulseReader {
+            base,
             ring: [255u8; 100],
             next: 0,
         }
@@ -100,27 +101,32 @@ impl PulseReader {
 
     // Takes one pulse, any byte.
     pub fn step(self, pulse: u8) -> Stepped
-        ensures { λ r. ⌜ r ≡ record { reader = taken self pulse; said = sayOf base (push (keptBy self) pulse) } ⌝ }
+        ensures { λ r. ⌜ r ≡ record { reader = taken self pulse; said = sayOf (self .base) (push (keptBy self) pulse) } ⌝ }
     {
+        let base = self.base;
         let at = self.next;
         let place = place_of(at);
         let old = self.ring;
         let mut new = old;
         new[place] = pulse;
-        let said = say_closed(&new, place);
+        let said = say_closed(base, &new, place);
         let next = place + 1;
         Stepped {
-            reader: PulseReader { ring: new, next },
+            reader: PulseReader {
+                base,
+                ring: new,
+                next,
+            },
             said,
         }
     }
 }
 
 // The answer after the last of the pulses, from a fresh reader on.
-pub fn answer_after(pulses: &[u8]) -> Said
+pub fn answer_after(base: u16, pulses: &[u8]) -> Said
     ensures { λ r. ⌜ r ≡ owed base (now (pulses .entry)) ⌝ }
 {
-    let mut reader = PulseReader::fresh();
+    let mut reader = PulseReader::fresh(base);
     let mut said = Said::Nothing;
     let mut i = 0;
     while i < pulses.len() {

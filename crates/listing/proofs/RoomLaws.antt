@@ -1,17 +1,20 @@
 -- A buffer of `roomForAny` bytes holds the listing of every book: a record that is not the last has 33 bytes or more, and no
--- line has more than 87.
+-- line has more than 88.
+use mathlib.Core.Bool.{Bool, true, false}
 use mathlib.Core.List.{List, [], _++_}
-use mathlib.Core.Path.{_≡_, ap}
+use mathlib.Core.Path.{_≡_, refl, ap}
 use Prim.Native.Nat.{ℕ, zero, suc, _+_, _-_, _*_, _≤_, _<_}
 use native.Mathlib.Decide.{decLe}
 use native.Mathlib.Omega.{arith}
+use lib.IntN.{ℤ, pos, negsuc}
 use lib.ListN.{length, length-append}
 use borrow.Author.Tests.{le-leb, lt-leb, lt-ltb, le-ltb}
-use Rattle.reading.specs.declared.Fault.the-variants.{Length}
+use Rattle.reading.specs.declared.Fault.the-variants.{Length, OtherBase}
 use Rattle.reading.specs.declared.Verdict.the-variants.{Good, Bad}
 use Rattle.reading.specs.declared.Written.{Written}
 use Rattle.reading.specs.declared.Written.the-variants.{Length as Stored, No as NotStored}
 use Rattle.reading.specs.Faults.{number}
+use Rattle.reading.specs.Years.{isBase}
 use Rattle.reading.specs.Writing.{writtenOf}
 use Rattle.reading.proofs.CheckLaws.{clash}
 use Rattle.text.specs.Decimal.{decimal}
@@ -23,6 +26,7 @@ use Rattle.book.proofs.PlaceLaws.{known-long, from-unknown, from-cut, from-whol
 use Rattle.book.proofs.BookLaws.{Place, beyond, strange, short, whole, place, next-inside}
 use Rattle.listing.specs.Listing.{
   field,
+  stampField,
   header,
   blank,
   okWord,
@@ -33,6 +37,7 @@ use Rattle.listing.specs.Listing.{
   lineAt,
   linesOf,
   largestBook,
+  wholeRefused,
   bodyText,
   listing,
   roomForAny,
@@ -45,10 +50,14 @@ use Rattle.listing.proofs.LineLaws.{foundAt, linesFrom, lines-step, lin
 field-length : (n : ℕ) (behind : List ℕ) → length (field n behind) ≤ 20 + length behind
 field-length n behind = omega (arith, length-append (decimal n) behind, decimal-length n)
 
-found-length : (found : Stamping) → length (foundText found) ≤ 66
+stamp-length : (z : ℤ) (behind : List ℕ) → length (stampField z behind) ≤ 21 + length behind
+stamp-length (pos n) behind = omega (arith, field-length n behind)
+stamp-length (negsuc n) behind = omega (arith, field-length (suc n) behind)
+
+found-length : (found : Stamping) → length (foundText found) ≤ 67
 found-length Over = omega arith
 found-length (Stamped kind stamp) =
-    omega (arith, length-append (field kind okWord) (field stamp zeroAtEnd), field-length kind okWord, field-length stamp zeroAtEnd)
+    omega (arith, length-append (field kind okWord) (stampField (stamp .0) zeroAtEnd), field-length kind okWord, stamp-length (stamp .0) zeroAtEnd)
 found-length (Unstamped kind x) =
     omega (
       arith,
@@ -59,18 +68,18 @@ found-length (Unstamped kind x) =
       field-length (x .place) lineFeed,
     )
 
-pub line-length : (at : ℕ) (found : Stamping) → length (lineAt at found) ≤ 87
+pub line-length : (at : ℕ) (found : Stamping) → length (lineAt at found) ≤ 88
 unfolding lineAt
 line-length at found = omega (arith, length-append (field at blank) (foundText found), field-length at blank, found-length found)
 
 -- ---- all lines
 
 module _ (base : ℕ) (b : List ℕ) where
-  -- the lines from a place on have no more than 87 bytes for 33 of the book, and 87 for the last record
+  -- the lines from a place on have no more than 88 bytes for 33 of the book, and 88 for the last record
   abbrev Short : ℕ → Type 0
-  Short at = 33 * length (linesFrom base b at) ≤ 87 * (length b - at) + 2871
+  Short at = 33 * length (linesFrom base b at) ≤ 88 * (length b - at) + 2904
 
-  after : (at : ℕ) → at < length b → 33 * length (linesFrom base b (nextAt b at)) + 2871 ≤ 87 * (length b - at) + 2871 → Short at
+  after : (at : ℕ) → at < length b → 33 * length (linesFrom base b (nextAt b at)) + 2904 ≤ 88 * (length b - at) + 2904 → Short at
   after at i h =
       let line = line-length at (foundAt base b at) in
       let both = length-append (lineAt at (foundAt base b at)) (linesFrom base b (nextAt b at)) in
@@ -96,20 +105,25 @@ module _ (base : ℕ) (b : List ℕ) where
 
   -- ---- the listing
 
-  pub body-too-long : largestBook < length b → bodyText base b ≡ lineAt 0 (Unstamped 0 (number Length))
+  pub body-too-long : largestBook < length b → bodyText base b ≡ wholeRefused Length
   unfolding bodyText
   body-too-long h = rw (lt-leb (length b) largestBook h)
 
-  pub body-listed : length b ≤ largestBook → bodyText base b ≡ linesOf base (records base b)
+  pub body-other-base : length b ≤ largestBook → isBase base ≡ false → bodyText base b ≡ wholeRefused OtherBase
   unfolding bodyText
-  body-listed h = rw (le-leb (length b) largestBook h)
+  body-other-base h g = rw (le-leb (length b) largestBook h, g)
+
+  pub body-listed : length b ≤ largestBook → isBase base ≡ true → bodyText base b ≡ linesOf base (records base b)
+  unfolding bodyText
+  body-listed h g = rw (le-leb (length b) largestBook h, g)
 
   body-length : length (bodyText base b) + length header ≤ roomForAny
-  body-length = go (decLe (length b) largestBook)
+  body-length = go (decLe (length b) largestBook) (isBase base) refl
     where
-      go : Dec (length b ≤ largestBook) → length (bodyText base b) + length header ≤ roomForAny
-      go (yes h) = omega (arith, ap length (body-listed h), lines-length (length b) 0 (omega arith))
-      go (no n) = omega (arith, ap length (body-too-long (omega arith)), line-length 0 (Unstamped 0 (number Length)))
+      go : Dec (length b ≤ largestBook) → (g : Bool) → isBase base ≡ g → length (bodyText base b) + length header ≤ roomForAny
+      go (yes h) true e = omega (arith, ap length (body-listed h e), lines-length (length b) 0 (omega arith))
+      go (yes h) false e = omega (arith, ap length (body-other-base h e), line-length 0 (Unstamped 0 (number OtherBase)))
+      go (no n) g e = omega (arith, ap length (body-too-long (omega arith)), line-length 0 (Unstamped 0 (number Length)))
 
   pub listing-fits : length (listing base b) ≤ roomForAny
   unfolding listing

@@ -8,5 +8,5 @@ use Rattle.listing.proofs.list.Kinds as list-kinds
 use Rattle.listing.proofs.list.Reads as list-reads
 
 pub list-one : (κs : Lfts 2) (a : Dens κs list-kinds.ps) (x y : resT list-kinds.r κs .Denot) (e f : AtExit (endedOf 2 list-kinds.ps list-kinds.r) κs)
-    → list-reads.Post κs a x e → list-reads.Post κs a y f → (x ≡ y) × (now (e .1 .0) ≡ now (f .1 .0))
+    → list-reads.Post κs a x e → list-reads.Post κs a y f → (x ≡ y) × (now (e .1 .1 .0) ≡ now (f .1 .1 .0))
 list-one κs a x y e f p q = (cc, cc)

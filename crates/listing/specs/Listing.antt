@@ -1,13 +1,16 @@
 -- The listing of a book, as text.
 use mathlib.Core.Bool.{cond}
 use mathlib.Core.List.{List, [], _∷_, _++_}
-use Prim.Native.Nat.{ℕ}
+use Prim.Native.Nat.{ℕ, suc}
 use lib.Dec.{leb, ltb}
+use lib.IntN.{ℤ, pos, negsuc}
 use lib.ListN.{length}
-use Rattle.reading.specs.declared.Fault.the-variants.{Length}
+use Rattle.reading.specs.declared.Fault.{Fault}
+use Rattle.reading.specs.declared.Fault.the-variants.{Length, OtherBase}
 use Rattle.reading.specs.declared.Verdict.{Verdict}
 use Rattle.reading.specs.declared.Verdict.the-variants.{Good, Bad}
 use Rattle.reading.specs.Faults.{number}
+use Rattle.reading.specs.Years.{isBase}
 use Rattle.text.specs.Decimal.{decimal}
 use Rattle.book.specs.declared.Stamping.{Stamping}
 use Rattle.book.specs.declared.Stamping.the-variants.{Over, Stamped, Unstamped}
@@ -27,6 +30,11 @@ header =
 -- a number in decimal, and the bytes behind it
 abbrev pub field : ℕ → List ℕ → List ℕ
 field n behind = decimal n ++ behind
+
+-- a stamp in decimal, with a minus before one that lies below zero, and the bytes behind it
+abbrev pub stampField : ℤ → List ℕ → List ℕ
+stampField (pos n) behind = field n behind
+stampField (negsuc n) behind = 45 ∷ field (suc n) behind
 
 -- a blank
 abbrev pub blank : List ℕ
@@ -51,7 +59,7 @@ lineFeed = 10 ∷ []
 -- "kind in decimal, `ok` with stamp and 0, or `no` with code and place"; nothing where there is no record
 abbrev pub foundText : Stamping → List ℕ
 foundText Over = []
-foundText (Stamped kind stamp) = field kind okWord ++ field stamp zeroAtEnd
+foundText (Stamped kind stamp) = field kind okWord ++ stampField (stamp .0) zeroAtEnd
 foundText (Unstamped kind refusal) = field kind noWord ++ field (refusal .code) blank ++ field (refusal .place) lineFeed
 
 -- "offset of the kind byte", then what was found there
@@ -67,9 +75,15 @@ linesOf base (e ∷ l) = lineAt (e .place) (stampingOf base (e .found)) ++ lines
 abbrev pub largestBook : ℕ
 largestBook = 65536
 
--- "A longer book gives the header and `0 0 no 1 0`."
+-- `0 0 no`, the code and `0`: what is said of a book as a whole
+abbrev pub wholeRefused : Fault → List ℕ
+wholeRefused fault = lineAt 0 (Unstamped 0 (number fault))
+
+-- "A longer book gives the header and `0 0 no 1 0`." L12: "any other base or argument is 19, straight after 1 and printed by the programs as
+-- 1 is"
 unfoldable pub bodyText : ℕ → List ℕ → List ℕ
-bodyText base b = cond (leb (length b) largestBook) (linesOf base (records base b)) (lineAt 0 (Unstamped 0 (number Length)))
+bodyText base b =
+    cond (leb (length b) largestBook) (cond (isBase base) (linesOf base (records base b)) (wholeRefused OtherBase)) (wholeRefused Length)
 
 -- "Header, then a line a record"
 unfoldable pub listing : ℕ → List ℕ → List ℕ

@@ -12,7 +12,7 @@ use Rattle.reading.specs.Universal.{utcOf}
 use Rattle.reading.specs.Leap.{sixtyBad}
 use Rattle.reading.specs.Writing.{writtenOf}
 use Rattle.reading.specs.Refusals.{Owed}
-use Rattle.reading.specs.Objections.{checkObjections, readingObjections, WrittenOwed}
+use Rattle.reading.specs.Objections.{checkObjections, soundObjections, readingObjections, WrittenOwed}
 use Rattle.reading.proofs.RefusalLaws.{Through, none, judged, one-then-other, always-at-0, verdict-owed}
 use Rattle.reading.proofs.OneDue.{owed-one}
 use Rattle.reading.proofs.OwedLaws.{checked-through, written-owed}
@@ -45,7 +45,7 @@ write-through base r room =
 
 pub write-owed : (base : ℕ) (r : Reading) (room : ℕ)
     → WrittenOwed (writeObjections base r room) writeCodes (writtenOf (writeFault base r room) textLength)
-unfolding writeObjections readingObjections checkObjections
+unfolding writeObjections readingObjections soundObjections checkObjections
 write-owed base r room =
     written-owed (writeObjections base r room) writeCodes (writeFault base r room) textLength
     (verdict-owed writeCodes (write-through base r room) refl refl)
@@ -60,5 +60,5 @@ module _ (base : ℕ) (r : Reading) (room : ℕ) (x : Refusal) where
   write-one y = owed-one (writeObjections base r room) writeCodes x y refl
 
   pub write-at-0 : Owed (writeObjections base r room) writeCodes x → x .place ≡ 0
-  unfolding writeObjections readingObjections checkObjections
+  unfolding writeObjections readingObjections soundObjections checkObjections
   write-at-0 = always-at-0 (writeObjections base r room) writeCodes x refl refl

@@ -11,8 +11,9 @@ use Rattle.reading.specs.declared.Reading.{Reading}
 use Rattle.reading.specs.declared.Verdict.{Verdict}
 use Rattle.reading.specs.declared.Verdict.the-variants.{Good, Bad}
 use Rattle.reading.specs.declared.Fault.{Fault}
-use Rattle.reading.specs.declared.Fault.the-variants.{Length, Byte}
+use Rattle.reading.specs.declared.Fault.the-variants.{Length, Byte, OtherBase}
 use Rattle.reading.specs.Faults.{number}
+use Rattle.reading.specs.Years.{isBase}
 use Rattle.reading.proofs.CheckLaws.{first-good, clash}
 use Rattle.wire.specs.Digits.{digit}
 use Rattle.wire.specs.Layout.{goodPlaces}
@@ -34,14 +35,18 @@ module _ (base : ℕ) (s : List ℕ) where
   unfolding faultIn
   wrong-length h = rw (ne-eqb (length s) textLength h)
 
-  pub bad-byte : (n : ℕ) → length s ≡ textLength → n ≡ goodPlaces layout s → n < textLength → Bad (Byte n) ≡ faultIn base s
+  pub other-base : length s ≡ textLength → isBase base ≡ false → Bad OtherBase ≡ faultIn base s
   unfolding faultIn
-  bad-byte n h e k = rw (eq-eqb (length s) textLength h, ← e, lt-ltb n textLength k)
+  other-base h b = rw (eq-eqb (length s) textLength h, b)
 
-  pub checked-last : (v : Verdict) (n : ℕ) → length s ≡ textLength → n ≡ goodPlaces layout s → textLength ≤ n
+  pub bad-byte : (n : ℕ) → length s ≡ textLength → isBase base ≡ true → n ≡ goodPlaces layout s → n < textLength → Bad (Byte n) ≡ faultIn base s
+  unfolding faultIn
+  bad-byte n h b e k = rw (eq-eqb (length s) textLength h, b, ← e, lt-ltb n textLength k)
+
+  pub checked-last : (v : Verdict) (n : ℕ) → length s ≡ textLength → isBase base ≡ true → n ≡ goodPlaces layout s → textLength ≤ n
       → v ≡ faultOf (meaning base s) (digit (getD s (places .weekday) 0)) false false places → v ≡ faultIn base s
   unfolding faultIn
-  checked-last v n h e k f = rw (eq-eqb (length s) textLength h, ← e, le-ltb n textLength k) f
+  checked-last v n h b e k f = rw (eq-eqb (length s) textLength h, b, ← e, le-ltb n textLength k) f
 
   -- the answer that goes with a fault, and with the last check's verdict
   pub refused : (x : Fault) → Bad x ≡ faultIn base s → No (number x) ≡ readMeinberg base s
@@ -58,17 +63,18 @@ module _ (base : ℕ) (s : List ℕ) where
   length-refused h = rw (← wrong-length h)
 
   -- "for code 2 it is the lowest bad place"
-  pub lowest-bad-byte : length s ≡ textLength → (k : ℕ) → k ≤ lastPlace → allowedAt layout s k ≡ false
+  pub lowest-bad-byte : length s ≡ textLength → isBase base ≡ true → (k : ℕ) → k ≤ lastPlace → allowedAt layout s k ≡ false
       → ((i : ℕ) → i < k → allowedAt layout s i ≡ true) → readMeinberg base s ≡ No (number (Byte k))
   unfolding readMeinberg
-  lowest-bad-byte h k l e f =
+  lowest-bad-byte h b k l e f =
       let n = first-bad-is layout s k (omega (arith, layout-length)) (omega arith) e f in
-      rw (← bad-byte k h (sym n) (omega arith))
+      rw (← bad-byte k h b (sym n) (omega arith))
 
 -- ---- a string without a fault
 
 pub record Accepted (base : ℕ) (s : List ℕ) : Type 0 where
   pub whole : length s ≡ textLength
+  pub base-good : isBase base ≡ true
   pub bytes : goodPlaces layout s ≡ textLength
   pub says : Sound (meaning base s) (digit (getD s (places .weekday) 0)) false false
 
@@ -77,11 +83,13 @@ module _ (base : ℕ) (s : List ℕ) where
   unfolding faultIn
   accepted e =
       let a = first-good (not (eqb (length s) textLength)) _ _ e in
-      let b = first-good (ltb (goodPlaces layout s) textLength) _ _ (a .1) in
+      let d = first-good (not (isBase base)) _ _ (a .1) in
+      let b = first-good (ltb (goodPlaces layout s) textLength) _ _ (d .1) in
       let whole = eqb-true (length s) textLength (not-false (eqb (length s) textLength) (a .0)) in
       let enough = ltb-false (goodPlaces layout s) textLength (b .0) in
       record {
         whole = whole;
+        base-good = not-false (isBase base) (d .0);
         bytes = omega (arith, good-within layout s .1);
         says = sound (meaning base s) (digit (getD s (places .weekday) 0)) false false places (b .1);
       }
@@ -90,7 +98,7 @@ module _ (base : ℕ) (s : List ℕ) where
   unfolding faultIn
   is-accepted p =
       let enough = le-ltb (goodPlaces layout s) textLength (omega (arith, p .bytes)) in
-      rw (eq-eqb (length s) textLength (p .whole), enough)
+      rw (eq-eqb (length s) textLength (p .whole), p .base-good, enough)
       (faultless (meaning base s) (digit (getD s (places .weekday) 0)) false false places (p .says))
 
 pub record Told (base : ℕ) (s : List ℕ) (r : Reading) (coasting : Bool) : Type 0 where

@@ -53,6 +53,7 @@ module _ (base : ℕ) (r : Reading) (coasting : Bool) (checked : Checked base r)
   bytes-accepted : Accepted base (bytesOf r coasting)
   bytes-accepted =
       record {
+        base-good = checked .base-good;
         whole = bytes-length r coasting;
         bytes = bytes-allowed r coasting;
         says = rw (meaning-back base r coasting checked carried) said;
@@ -85,6 +86,7 @@ module _ (base : ℕ) (s : List ℕ) (p : Accepted base s) where
   unfolding meaning
   meaning-checked =
       record {
+        base-good = p .base-good;
         hour = p .says .hour;
         minute = p .says .minute;
         second = p .says .second;

@@ -9,7 +9,7 @@ use lib.ListN.{length, getD}
 use Rattle.reading.specs.declared.Reading.{Reading}
 use Rattle.reading.specs.declared.Refusal.{Refusal}
 use Rattle.reading.specs.Writing.{filled}
-use Rattle.reading.specs.Years.{base}
+use Rattle.reading.specs.Years.{usualBase as base}
 use Rattle.strings.specs.declared.Answer.{Answer}
 use Rattle.strings.specs.declared.Answer.the-variants.{Time, No}
 use Rattle.meinberg.specs.Layout.{textLength}

@@ -28,7 +28,7 @@ pub for-clock-string-one : Coincide 1 for-clock-string-kinds.ps for-clock-string
 for-clock-string-one κs a x y e f p q = cc
 
 pub write-one : (κs : Lfts 1) (a : Dens κs write-kinds.ps) (x y : resT write-kinds.r κs .Denot) (e f : AtExit (endedOf 1 write-kinds.ps write-kinds.r) κs)
-    → write-reads.Post κs a x e → write-reads.Post κs a y f → (x ≡ y) × (now (e .1 .1 .0) ≡ now (f .1 .1 .0))
+    → write-reads.Post κs a x e → write-reads.Post κs a y f → (x ≡ y) × (now (e .1 .1 .1 .0) ≡ now (f .1 .1 .1 .0))
 write-one κs a x y e f p q = (cc, cc)
 
 -- ---- what the crate's own files call
@@ -40,7 +40,7 @@ pub field-places-one : Coincide 0 field-places-kinds.ps field-places-kinds.r fie
 field-places-one κs a x y e f p q = cc
 
 pub into-one : (κs : Lfts 1) (a : Dens κs into-kinds.ps) (x y : resT into-kinds.r κs .Denot) (e f : AtExit (endedOf 1 into-kinds.ps into-kinds.r) κs)
-    → into-reads.Post κs a x e → into-reads.Post κs a y f → (x ≡ y) × (now (e .1 .1 .0) ≡ now (f .1 .1 .0))
+    → into-reads.Post κs a x e → into-reads.Post κs a y f → (x ≡ y) × (now (e .1 .1 .1 .0) ≡ now (f .1 .1 .1 .0))
 into-one κs a x y e f p q = (cc, cc)
 
 pub offset-of-one : Coincide 0 offset-of-kinds.ps offset-of-kinds.r offset-of-reads.Post

@@ -7,14 +7,13 @@ use Prim.Native.Nat.{ℕ}
 use lib.IntN.{ℤ, pos}
 use Rattle.calendar.specs.Calendar.{leapYear, daysIn, daysBefore, yearLength, daysBeforeYear, dayOfYear, dayNumber, weekdayOf, isMonth, lastDay, isDay, isDate}
 use Rattle.reading.specs.declared.Reading.{Reading}
-use Rattle.reading.specs.declared.Stamp.the-variants.{At}
 use Rattle.reading.specs.Faults.{number}
 use Rattle.reading.specs.Leap.{closesWithLeap, leapMinute, sixtyBad}
 use Rattle.reading.specs.Offset.{west, east, offsetGood}
 use Rattle.reading.specs.Universal.{utcMinutes, onDay, utcOf}
-use Rattle.reading.specs.Years.{base, inHundred, yearOf}
-use Rattle.reading.specs.Checks.{timeBad, dateBad, checkedOf, dayBad, monthBad, weekdayWrong}
-use Rattle.reading.specs.Stamps.{hasStamp, stampNumber, stampAt, stampOf}
+use Rattle.reading.specs.Years.{usualBase as base, isBase, firstYear, inHundred, yearOf}
+use Rattle.reading.specs.Checks.{timeBad, dateBad, soundOf, checkedOf, dayBad, monthBad, weekdayWrong}
+use Rattle.reading.specs.Stamps.{hasStamp, countOf, countZero, stampNumber, stampIs, stampAt, stampOf}
 use Rattle.wire.specs.Digits.{digit, pair}
 use Rattle.wire.specs.Layout.{packed, exactly, from, either, oneOf, within, beside, allowed, goodPlaces}
 use Rattle.strings.specs.declared.Answer.{Answer}
@@ -106,7 +105,7 @@ unfolding readMeinberg faultIn meaning coastingIn qualityOf offsetOf summerOf
     layout packed exactly from either oneOf within beside allowed goodPlaces digit pair
     faultOf dayBad monthBad weekdayBad weekdayWrong number yearOf
     leapYear daysIn daysBefore yearLength daysBeforeYear dayOfYear dayNumber weekdayOf isMonth lastDay isDay isDate
-    closesWithLeap leapMinute sixtyBad west east utcMinutes onDay utcOf
+    closesWithLeap leapMinute sixtyBad west east utcMinutes onDay utcOf firstYear isBase
 worked = refl
 
 -- "x is `U` (offset 0), space (offset +2 half hours) or `S` (+4, summer)" with offsets that L9 doubles, "u is `#` (quality 15) or space
@@ -125,12 +124,12 @@ unfolding readMeinberg faultIn meaning coastingIn qualityOf offsetOf summerOf
     layout packed exactly from either oneOf within beside allowed goodPlaces digit pair
     faultOf dayBad monthBad weekdayBad weekdayWrong number yearOf
     leapYear daysIn daysBefore yearLength daysBeforeYear dayOfYear dayNumber weekdayOf isMonth lastDay isDay isDate
-    closesWithLeap leapMinute sixtyBad west east utcMinutes onDay utcOf
+    closesWithLeap leapMinute sixtyBad west east utcMinutes onDay utcOf firstYear isBase
 worked-letters = (refl, refl)
 
 -- "stamp 536550209"
-pub worked-stamp : stampOf base atLeapSecond ≡ At 536550209
+pub worked-stamp : stampOf base atLeapSecond ≡ stampIs (pos 536550209)
 unfolding stampOf stampAt stampNumber hasStamp checkedOf timeBad dateBad inHundred offsetGood
     leapYear daysIn daysBefore yearLength daysBeforeYear dayOfYear dayNumber isMonth lastDay isDay isDate
-    closesWithLeap leapMinute sixtyBad west east utcMinutes onDay utcOf
+    closesWithLeap leapMinute sixtyBad west east utcMinutes onDay utcOf firstYear isBase soundOf countOf countZero
 worked-stamp = refl

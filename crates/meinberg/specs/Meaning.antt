@@ -8,6 +8,7 @@ use Rattle.reading.specs.declared.Reading.{Reading}
 use Rattle.reading.specs.declared.Verdict.{Verdict}
 use Rattle.reading.specs.declared.Fault.the-variants.{Length, Byte}
 use Rattle.reading.specs.Faults.{first}
+use Rattle.reading.specs.Checks.{onBase}
 use Rattle.reading.specs.Years.{yearOf}
 use Rattle.wire.specs.Digits.{digit, pair}
 use Rattle.wire.specs.Layout.{goodPlaces}
@@ -54,13 +55,14 @@ meaning base s =
       quality = qualityOf (getD s failurePlace 0);
     }
 
--- the first fault of the string s: its length, its lowest bad byte, then what it says. Each zone's offset is good, and no
+-- the first fault of the string s: its length, the base, its lowest bad byte, then what it says. Each zone's offset is good, and no
 -- byte marks a leap second.
 unfoldable pub faultIn : ℕ → List ℕ → Verdict
 faultIn base s =
     first (not (eqb (length s) textLength)) Length
+    (onBase base
     (first (ltb (goodPlaces layout s) textLength) (Byte (goodPlaces layout s))
-    (faultOf (meaning base s) (digit (getD s (places .weekday) 0)) false false places))
+    (faultOf (meaning base s) (digit (getD s (places .weekday) 0)) false false places)))
 
 -- the answer to the string s, where its two digits name a year of the hundred that starts with base
 unfoldable pub readMeinberg : ℕ → List ℕ → Answer

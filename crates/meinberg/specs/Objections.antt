@@ -1,5 +1,5 @@
 -- What can be wrong with a Meinberg string, and with what is to be written as one, with code and place.
--- Conditions and codes are those of 01's table, as amended by L5, a place is that of "the first byte of the lowest offending field".
+-- Conditions and codes are those of 01's table, as amended by L5 and L12, a place is that of "the first byte of the lowest offending field".
 -- (Of an input of another length, code 2 may hold too: code 1 goes before it.)
 use mathlib.Core.Bool.{not}
 use mathlib.Core.List.{List, [], _∷_, _++_}
@@ -11,7 +11,7 @@ use Rattle.reading.specs.Universal.{utcOf}
 use Rattle.reading.specs.Leap.{sixtyBad}
 use Rattle.reading.specs.Checks.{hourBad, minuteBad, secondBad, dayBad, monthBad, weekdayWrong}
 use Rattle.reading.specs.Refusals.{Objection, objection}
-use Rattle.reading.specs.Objections.{readingObjections}
+use Rattle.reading.specs.Objections.{baseObjection, readingObjections}
 use Rattle.wire.specs.Digits.{digit}
 use Rattle.wire.specs.Layout.{goodPlaces}
 use Rattle.strings.specs.Checks.{weekdayBad}
@@ -19,10 +19,11 @@ use Rattle.meinberg.specs.Layout.{layout}
 use Rattle.meinberg.specs.Meaning.{meaning}
 use Rattle.meinberg.specs.Writing.{notCarried}
 
--- the string s, where it says the reading r and the weekday w
-unfoldable pub saidObjections : List ℕ → Reading → ℕ → List Objection
-saidObjections s r w =
+-- the string s, where with this base it says the reading r and the weekday w
+unfoldable pub saidObjections : ℕ → List ℕ → Reading → ℕ → List Objection
+saidObjections base s r w =
     objection (not (eqb (length s) 32)) 1 0
+    ∷ baseObjection base
     ∷ objection (ltb (goodPlaces layout s) 32) 2 (goodPlaces layout s)
     ∷ objection (hourBad (r .hour)) 15 18
     ∷ objection (minuteBad (r .minute)) 15 21
@@ -36,7 +37,7 @@ saidObjections s r w =
 
 -- a string
 unfoldable pub readObjections : ℕ → List ℕ → List Objection
-readObjections base s = saidObjections s (meaning base s) (digit (getD s 14 0))
+readObjections base s = saidObjections base s (meaning base s) (digit (getD s 14 0))
 
 -- a reading, and room for so many bytes
 unfoldable pub writeObjections : ℕ → Reading → ℕ → List Objection
@@ -44,7 +45,7 @@ writeObjections base r room = objection (ltb room 32) 1 0 ∷ readingObjections 
 
 -- the codes that a string can be refused with, and those of the writer
 abbrev pub readCodes : List ℕ
-readCodes = 1 ∷ 2 ∷ 15 ∷ 16 ∷ 6 ∷ 9 ∷ []
+readCodes = 1 ∷ 19 ∷ 2 ∷ 15 ∷ 16 ∷ 6 ∷ 9 ∷ []
 
 abbrev pub writeCodes : List ℕ
-writeCodes = 1 ∷ 15 ∷ 16 ∷ 17 ∷ 8 ∷ 9 ∷ 11 ∷ []
+writeCodes = 1 ∷ 19 ∷ 15 ∷ 16 ∷ 17 ∷ 8 ∷ 9 ∷ 11 ∷ []

@@ -4,7 +4,6 @@ use reading::Reading;
 use reading::Written;
 ghost use mathlib.Core.Path.{_≡_};
 ghost use lib.ListN.{length};
-ghost use Rattle.reading.specs.Years.{base};
 ghost use Rattle.reading.specs.Writing.{writtenOf, filled};
 ghost use Rattle.meinberg.specs.Layout.{textLength};
 ghost use Rattle.meinberg.specs.Writing.{bytesOf, writeFault};
@@ -24,10 +23,10 @@ impl Meinberg {
     pub const LAST: usize = 31;
 
     // Writes the string of a reading to the start of `out`; a refusal leaves `out` as it was.
-    pub fn write(r: Reading, coasting: bool, out: &mut [u8]) -> Written
+    pub fn write(base: u16, r: Reading, coasting: bool, out: &mut [u8]) -> Written
         ensures { λ w. ⌜ w ≡ writtenOf (writeFault base r (length (now (out .entry)))) textLength ⌝ }
         ensures { λ w. ⌜ now (out .exit) ≡ filled (writeFault base r (length (now (out .entry)))) (bytesOf r coasting) (now (out .entry)) ⌝ }
     {
-        write::into(r, coasting, out)
+        write::into(base, r, coasting, out)
     }
 }

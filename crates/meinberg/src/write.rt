@@ -19,7 +19,6 @@ ghost use lib.ListN.{length};
 ghost use Rattle.calendar.specs.Calendar.{weekdayOf};
 ghost use Rattle.wire.specs.Digits.{ones};
 ghost use Rattle.reading.specs.Universal.{dateOf};
-ghost use Rattle.reading.specs.Years.{base};
 ghost use Rattle.reading.specs.Writing.{writtenOf, filled};
 ghost use Rattle.meinberg.specs.Layout.{textLength};
 ghost use Rattle.meinberg.specs.Writing.{announcement, yearDigits, bytesOf, notCarried, writeFault};
@@ -31,13 +30,13 @@ fn not_carried(r: Reading) -> bool
     !zone_carried(offset, r.summer) | (r.change & r.leap) | ((1 <= r.quality) & (r.quality <= 14))
 }
 
-fn write_fault(r: Reading, room: usize) -> Verdict
+fn write_fault(base: u16, r: Reading, room: usize) -> Verdict
     ensures { λ v. ⌜ v ≡ writeFault base r room ⌝ }
 {
     if room < Meinberg::LENGTH {
         return Verdict::Bad(Fault::Length);
     }
-    if let Verdict::Bad(fault) = checked(r) {
+    if let Verdict::Bad(fault) = checked(base, r) {
         return Verdict::Bad(fault);
     }
     if not_carried(r) {
@@ -114,11 +113,11 @@ fn bytes_of(r: Reading, coasting: bool) -> [u8; 32]
 }
 
 // Every refusal is decided before the first store.
-pub(crate) fn into(r: Reading, coasting: bool, out: &mut [u8]) -> Written
+pub(crate) fn into(base: u16, r: Reading, coasting: bool, out: &mut [u8]) -> Written
     ensures { λ w. ⌜ w ≡ writtenOf (writeFault base r (length (now (out .entry)))) textLength ⌝ }
     ensures { λ w. ⌜ now (out .exit) ≡ filled (writeFault base r (length (now (out .entry)))) (bytesOf r coasting) (now (out .entry)) ⌝ }
 {
-    if let Verdict::Bad(fault) = write_fault(r, out.len()) {
+    if let Verdict::Bad(fault) = write_fault(base, r, out.len()) {
         return Written::No(refusal_of(fault));
     }
     let text = bytes_of(r, coasting);

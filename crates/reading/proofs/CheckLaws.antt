@@ -12,11 +12,11 @@ use Rattle.reading.specs.declared.Fault.{Fault}
 use Rattle.reading.specs.declared.Verdict.{Verdict}
 use Rattle.reading.specs.declared.Verdict.the-variants.{Good}
 use Rattle.reading.specs.Faults.{first}
-use Rattle.reading.specs.Years.{inHundred}
+use Rattle.reading.specs.Years.{isBase, inHundred}
 use Rattle.reading.specs.Offset.{offsetGood}
 use Rattle.reading.specs.Universal.{dateOf, utcOf}
 use Rattle.reading.specs.Leap.{sixtyBad}
-use Rattle.reading.specs.Checks.{hourBad, minuteBad, secondBad, timeBad, dateBad, qualityBad, checkedOf, dayBad, monthBad, weekdayWrong}
+use Rattle.reading.specs.Checks.{hourBad, minuteBad, secondBad, timeBad, dateBad, qualityBad, soundOf, checkedOf, dayBad, monthBad, weekdayWrong}
 
 pub clash : {A : Type 0} → _≡_ {A = ℕ} 0 1 → A
 clash z = absurd (no z)
@@ -30,6 +30,7 @@ first-good false x v e = (refl, e)
 first-good true x v e = let z : _≡_ {A = ℕ} 0 1 = cc in clash z
 
 pub record Checked (base : ℕ) (r : Reading) : Type 0 where
+  pub base-good : isBase base ≡ true
   pub hour : r .hour ≤ 23
   pub minute : r .minute ≤ 59
   pub second : r .second ≤ 60
@@ -50,10 +51,20 @@ date-good : (base : ℕ) (r : Reading) → dateBad base r ≡ false → (inHundr
 unfolding dateBad
 date-good base r e = both (inHundred base (r .year)) (isDate (dateOf r)) (not-false (inHundred base (r .year) && isDate (dateOf r)) e)
 
-pub checked-is : (base : ℕ) (r : Reading) → checkedOf base r ≡ Good → Checked base r
+-- a base and a reading pass where the base is one and the reading alone passes
+pub base-and-sound : (base : ℕ) (r : Reading) → checkedOf base r ≡ Good → (isBase base ≡ true) × (soundOf base r ≡ Good)
 unfolding checkedOf
-checked-is base r e =
-    let a = first-good (timeBad r) _ _ e in
+base-and-sound base r e = let a = first-good (not (isBase base)) _ _ e in (not-false (isBase base) (a .0), a .1)
+
+pub sound-checked : (base : ℕ) (r : Reading) → isBase base ≡ true → soundOf base r ≡ Good → checkedOf base r ≡ Good
+unfolding checkedOf
+sound-checked base r b e = rw (b, e)
+
+pub checked-is : (base : ℕ) (r : Reading) → checkedOf base r ≡ Good → Checked base r
+unfolding soundOf
+checked-is base r good =
+    let bs = base-and-sound base r good in
+    let a = first-good (timeBad r) _ _ (bs .1) in
     let b = first-good (dateBad base r) _ _ (a .1) in
     let c = first-good (qualityBad (r .quality)) _ _ (b .1) in
     let d = first-good (not (offsetGood (r .offset .0))) _ _ (c .1) in
@@ -61,6 +72,7 @@ checked-is base r e =
     let t = time-good r (a .0) in
     let u = date-good base r (b .0) in
     record {
+      base-good = bs .0;
       hour = t .0;
       minute = t .1;
       second = t .2;
@@ -72,9 +84,10 @@ checked-is base r e =
     }
 
 pub is-checked : (base : ℕ) (r : Reading) → Checked base r → checkedOf base r ≡ Good
-unfolding checkedOf timeBad dateBad
+unfolding checkedOf soundOf timeBad dateBad
 is-checked base r p =
     rw (
+      p .base-good,
       le-ltb 23 (r .hour) (p .hour),
       le-ltb 59 (r .minute) (p .minute),
       le-ltb 60 (r .second) (p .second),

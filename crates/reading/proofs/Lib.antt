@@ -8,6 +8,7 @@ pub mod UtcLaws
 pub mod LocalLaws
 pub mod StampLaws
 pub mod StampOrder
+pub mod SignLaws
 pub mod OneDue
 pub mod OwedLaws
 pub mod Unique

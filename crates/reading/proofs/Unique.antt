@@ -62,6 +62,14 @@ use Rattle.reading.proofs.checks.weekday_wrong.Kinds as weekday-wrong-k
 use Rattle.reading.proofs.checks.weekday_wrong.Reads as weekday-wrong-reads
 use Rattle.reading.proofs.stamps.stamp_of.Kinds as stamp-of-kinds
 use Rattle.reading.proofs.stamps.stamp_of.Reads as stamp-of-reads
+use Rattle.reading.proofs.years.is_base.Kinds as is-base-kinds
+use Rattle.reading.proofs.years.is_base.Reads as is-base-reads
+use Rattle.reading.proofs.checks.sound.Kinds as sound-kinds
+use Rattle.reading.proofs.checks.sound.Reads as sound-reads
+use Rattle.reading.proofs.Since2000.is_before.Kinds as is-before-kinds
+use Rattle.reading.proofs.Since2000.is_before.Reads as is-before-reads
+use Rattle.reading.proofs.Since2000.distance.Kinds as distance-kinds
+use Rattle.reading.proofs.Since2000.distance.Reads as distance-reads
 
 pub same-offset-one : Coincide 0 same-offset-kinds.ps same-offset-kinds.r same-offset-reads.Post
 same-offset-one κs a x y e f p q = cc
@@ -155,3 +163,15 @@ stamp-of-one κs a x y e f p q = cc
 
 pub written-one : Coincide 0 written-kinds.ps written-kinds.r written-reads.Post
 written-one κs a x y e f p q = cc
+
+pub is-base-one : Coincide 0 is-base-kinds.ps is-base-kinds.r is-base-reads.Post
+is-base-one κs a x y e f p q = cc
+
+pub sound-one : Coincide 0 sound-kinds.ps sound-kinds.r sound-reads.Post
+sound-one κs a x y e f p q = cc
+
+pub is-before-one : Coincide 0 is-before-kinds.ps is-before-kinds.r is-before-reads.Post
+is-before-one κs a x y e f p q = cc
+
+pub distance-one : Coincide 0 distance-kinds.ps distance-kinds.r distance-reads.Post
+distance-one κs a x y e f p q = cc

@@ -13,10 +13,10 @@ use Rattle.calendar.proofs.YearLaws.{year-later}
 use Rattle.calendar.proofs.DateLaws.{Real, real, number-is, lastNumber, before-last, day-after-is, day-before-is}
 use Rattle.reading.specs.declared.Reading.{Reading}
 use Rattle.reading.specs.declared.Utc.{Utc}
-use Rattle.reading.specs.Years.{base}
+use Rattle.reading.specs.Years.{firstYear}
 use Rattle.reading.specs.Offset.{unit, west, east}
 use Rattle.reading.specs.Universal.{day, utcMinutes, onDay, dateOf, utcOf}
-use Rattle.reading.proofs.YearLaws.{hundred}
+use Rattle.reading.proofs.YearLaws.{starts-between, hundred}
 use Rattle.reading.proofs.OffsetLaws.{offset-range}
 use Rattle.reading.proofs.CheckLaws.{Checked}
 
@@ -69,26 +69,19 @@ minutes-is h m z = refl
 old-enough : (t : Date) → Real t → 1 ≤ t .year → 1 < dayNumber t
 old-enough t p h = omega (arith, p .one, number-is t, year-later 0 (t .year) h, year-least (leapYear 0) .0)
 
--- base years whose hundred has a year before it and one after it
-pub record Base (b : ℕ) : Type 0 where
-  pub from : 1 ≤ b
-  pub to : b + 100 ≤ lastYear
-
-pub base-fine : Base base
-base-fine = record { from = omega arith; to = omega arith }
-
 -- "UTC is local time less the offset": the same count of minutes, from the start of the year 0
 pub record Universal (r : Reading) : Type 0 where
   pub real : Real (utcOf r .date)
   pub minute : utcOf r .minute < day
   pub minutes : dayNumber (utcOf r .date) * day + utcOf r .minute + unit * east (r .offset .0) ≡ dayNumber (dateOf r) * day + r .hour * 60 + r .minute + unit * west (r .offset .0)
 
-pub universal : (b : ℕ) (r : Reading) → Base b → Checked b r → Universal r
+pub universal : (b : ℕ) (r : Reading) → Checked b r → Universal r
 unfolding utcOf
-universal b r s p =
+universal b r p =
     let z = r .offset .0 in
     let t = dateOf r in
     let q = real t (p .date) in
+    let s = starts-between b in
     let y = hundred b (r .year) (p .year) in
     let o = offset-range z (p .offset) in
     let m = minutes-is (r .hour) (r .minute) z in
@@ -96,5 +89,5 @@ universal b r s p =
     let h = p .hour in
     let k = p .minute in
     let c =
-    on-day-is t n q (old-enough t q (omega (arith, s .from))) (before-last t q (omega (arith, s .to))) (omega arith) in
+    on-day-is t n q (old-enough t q (omega arith)) (before-last t q (omega arith)) (omega arith) in
     record { real = c .real; minute = c .minute; minutes = omega (arith, c .minutes) }

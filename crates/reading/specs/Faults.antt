@@ -1,4 +1,4 @@
--- What can be wrong, and the number and place that document 01 gives for it, as amended by L5.
+-- What can be wrong, and the number and place that document 01 gives for it, as amended by L5, L8 and L12.
 use mathlib.Core.Bool.{Bool, true, false}
 use Prim.Native.Nat.{ℕ}
 use Rattle.reading.specs.declared.Refusal.{Refusal}
@@ -19,6 +19,7 @@ use Rattle.reading.specs.declared.Fault.the-variants.{
   NotCarried,
   OutsideYears,
   SummerRule,
+  OtherBase,
   CutShort,
   UnknownKind,
 }
@@ -26,8 +27,8 @@ use Rattle.reading.specs.declared.Verdict.{Verdict}
 use Rattle.reading.specs.declared.Verdict.the-variants.{Bad}
 
 -- the table of refusal numbers; by L5 what was 5 is "15 for a time field, 16 for a date field, a weekday out of range or a day that
--- month lacks, 17 for quality or head"; by L8 18 is for a rule of summer time, and 12 also for "a named minute whose UTC or local year is
--- outside 2000..2099"
+-- month lacks, 17 for quality or head"; by L8 18 is for a rule of summer time, and 12 also for a named minute outside the hundred years;
+-- by L12 "any other base or argument is 19"
 abbrev pub codeOf : Fault → ℕ
 codeOf Length = 1
 codeOf (Byte place) = 2
@@ -44,6 +45,7 @@ codeOf (Deletion place) = 10
 codeOf NotCarried = 11
 codeOf OutsideYears = 12
 codeOf SummerRule = 18
+codeOf OtherBase = 19
 codeOf CutShort = 13
 codeOf UnknownKind = 14
 
@@ -66,6 +68,7 @@ placeOf (Deletion place) = place
 placeOf NotCarried = 0
 placeOf OutsideYears = 0
 placeOf SummerRule = 0
+placeOf OtherBase = 0
 placeOf CutShort = 0
 placeOf UnknownKind = 0
 

@@ -9,10 +9,10 @@ use Rattle.laws.specs.Tests.{among}
 use Rattle.reading.specs.declared.Refusal.{Refusal}
 
 -- the order in which codes are judged. 01: "The lowest applicable code is given"; amended by L5: "15, 16 and 17 stand in 5's position,
--- in that order; 5 is retired." L8: "18 comes after 1 and before 5's successors". A book's own codes, 13 and 14, are judged beside no
--- other.
+-- in that order; 5 is retired." L8: "18 comes after 1 and before 5's successors". L12: 19 comes "straight after 1". A book's own codes, 13
+-- and 14, are judged beside no other.
 abbrev pub order : List ℕ
-order = 1 ∷ 18 ∷ 2 ∷ 3 ∷ 4 ∷ 15 ∷ 16 ∷ 17 ∷ 6 ∷ 7 ∷ 8 ∷ 9 ∷ 10 ∷ 11 ∷ 12 ∷ []
+order = 1 ∷ 19 ∷ 18 ∷ 2 ∷ 3 ∷ 4 ∷ 15 ∷ 16 ∷ 17 ∷ 6 ∷ 7 ∷ 8 ∷ 9 ∷ 10 ∷ 11 ∷ 12 ∷ []
 
 -- something that can be wrong: whether it is, and the code and place that it is refused with. The condition is one of the whole input,
 -- so that it holds or not also where another one holds.

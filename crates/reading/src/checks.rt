@@ -1,20 +1,20 @@
-// The checks of a reading: those that every writer and stamping share, in the order of their codes, and two of the readers'.
+// The checks of a base and a reading: those that every writer and stamping share, in the order of their codes, and two of the readers'.
 use super::Fault;
 use super::Reading;
 use super::Verdict;
 use super::leap::leap_minute;
 use super::universal::utc_of;
 use super::years::in_hundred;
+use super::years::is_base;
 use calendar::Date;
 use calendar::days::weekday;
 use calendar::months::is_date;
 use calendar::months::is_day;
 use calendar::months::is_leap;
 ghost use mathlib.Core.Path.{_≡_};
-ghost use Rattle.reading.specs.Years.{base};
 ghost use Rattle.reading.specs.Universal.{utcOf};
 ghost use Rattle.reading.specs.Leap.{sixtyBad};
-ghost use Rattle.reading.specs.Checks.{hourBad, minuteBad, secondBad, timeBad, noDay, dateBad, qualityBad, checkedOf, firstFault, dayBad, weekdayWrong};
+ghost use Rattle.reading.specs.Checks.{hourBad, minuteBad, secondBad, timeBad, noDay, dateBad, qualityBad, firstFault, soundOf, checkedOf, dayBad, weekdayWrong};
 
 pub fn hour_bad(hour: u8) -> bool
     ensures { λ r. ⌜ r ≡ hourBad hour ⌝ }
@@ -40,14 +40,14 @@ pub fn time_bad(r: Reading) -> bool
     hour_bad(r.hour) | (minute_bad(r.minute) | second_bad(r.second))
 }
 
-// No day of the hundred years of a reading.
-pub fn no_day(date: Date) -> bool
+// No day of the hundred years of the base.
+pub fn no_day(base: u16, date: Date) -> bool
     ensures { λ b. ⌜ b ≡ noDay base date ⌝ }
 {
-    !(in_hundred(date.year) & is_date(date))
+    !(in_hundred(base, date.year) & is_date(date))
 }
 
-pub fn date_bad(r: Reading) -> bool
+pub fn date_bad(base: u16, r: Reading) -> bool
     ensures { λ b. ⌜ b ≡ dateBad base r ⌝ }
 {
     let date = Date {
@@ -55,7 +55,7 @@ pub fn date_bad(r: Reading) -> bool
         month: r.month,
         day: r.day,
     };
-    no_day(date)
+    no_day(base, date)
 }
 
 pub fn quality_bad(quality: u8) -> bool
@@ -95,17 +95,27 @@ pub fn first_fault(time: bool, date: bool, quality: bool, offset: bool, sixty: b
     Verdict::Good
 }
 
-pub fn checked(r: Reading) -> Verdict
-    ensures { λ v. ⌜ v ≡ checkedOf base r ⌝ }
+// A reading alone, for a writer that has asked for the base before.
+pub fn sound(base: u16, r: Reading) -> Verdict
+    ensures { λ v. ⌜ v ≡ soundOf base r ⌝ }
 {
     let offset = r.offset;
     first_fault(
         time_bad(r),
-        date_bad(r),
+        date_bad(base, r),
         quality_bad(r.quality),
         !offset.is_good(),
         leap_second_bad(r),
     )
+}
+
+pub fn checked(base: u16, r: Reading) -> Verdict
+    ensures { λ v. ⌜ v ≡ checkedOf base r ⌝ }
+{
+    if is_base(base) {
+        return sound(base, r);
+    }
+    Verdict::Bad(Fault::OtherBase)
 }
 
 // The month has no such day.

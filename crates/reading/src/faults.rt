@@ -26,6 +26,7 @@ fn code_of(fault: Fault) -> u8
         Fault::NotCarried => 11,
         Fault::OutsideYears => 12,
         Fault::SummerRule => 18,
+        Fault::OtherBase => 19,
         Fault::CutShort => 13,
         Fault::UnknownKind => 14,
     }
@@ -50,6 +51,7 @@ fn place_of(fault: Fault) -> usize
         Fault::NotCarried => 0,
         Fault::OutsideYears => 0,
         Fault::SummerRule => 0,
+        Fault::OtherBase => 0,
         Fault::CutShort => 0,
         Fault::UnknownKind => 0,
     }

@@ -1,5 +1,6 @@
 // A clock reading that knows no format: its fields, the two senses of offset, what can be wrong with it, its UTC and its
-// stamp. Every public function takes any value and answers as the definitions of specs/ say.
+// stamp. Every public function takes any value and answers as the definitions of specs/ say; a base year is any number, and one that is
+// none of the two is refused.
 pub mod checks;
 pub mod faults;
 pub mod leap;
@@ -56,6 +57,7 @@ pub enum Fault {
     NotCarried,
     OutsideYears,
     SummerRule,
+    OtherBase,
     CutShort,
     UnknownKind,
 }
@@ -71,8 +73,11 @@ pub struct Refusal {
     pub place: usize,
 }
 
+// The stamp of a UTC second: how far it lies from the start of 2000, below zero before it.
+pub struct Since2000(pub i64);
+
 pub enum Stamp {
-    At(u64),
+    At(Since2000),
     Refused(Refusal),
 }
 

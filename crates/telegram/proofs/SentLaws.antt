@@ -14,12 +14,11 @@ use Rattle.reading.specs.declared.Utc.{Utc}
 use Rattle.reading.specs.declared.Verdict.the-variants.{Good}
 use Rattle.reading.specs.Offset.{offsetGood}
 use Rattle.reading.specs.Universal.{day, dateOf, utcOf, minuteAfter, localAt, shownAt}
-use Rattle.reading.specs.Years.{inHundred}
+use Rattle.reading.specs.Years.{isBase, inHundred}
 use Rattle.reading.specs.Leap.{lastMinute, closesWithLeap, leapMinute, afterLeap, sixtyBad}
 use Rattle.reading.specs.Checks.{hourBad, minuteBad, noDay}
-use Rattle.reading.proofs.YearLaws.{hundred}
+use Rattle.reading.proofs.YearLaws.{starts-between, hundred}
 use Rattle.reading.proofs.CheckLaws.{first-good, is-checked}
-use Rattle.reading.proofs.UtcLaws.{Base}
 use Rattle.reading.proofs.LocalLaws.{Next, minute-after-is, Inner, inner, local-utc, local-date, local-hour, local-minute}
 use Rattle.reading.proofs.LeapLaws.{after-leap-minute}
 use Rattle.dcf77.specs.Zones.{offsetIn}
@@ -38,6 +37,7 @@ use Rattle.telegram.specs.Faults.{timeBad, leapDateBad, outside, faultWi
 -- ---- what the checks tell
 
 pub record Fit (base : ℕ) (sender : Sender) (sent : Sent) (head : ℕ) : Type 0 where
+  pub base-good : isBase base ≡ true
   pub rule : ruleBad (sender .rule) ≡ false
   pub hour : sent .hour ≤ 23
   pub minute : sent .minute ≤ 59
@@ -68,7 +68,8 @@ inside base y z e = both (inHundred base y) (inHundred base z) (not-false (inHun
 pub fit : (base : ℕ) (sender : Sender) (sent : Sent) (head : ℕ) → sendFault base sender sent head ≡ Good → Fit base sender sent head
 unfolding sendFault faultWith
 fit base sender sent head e =
-    let a = first-good (ruleBad (sender .rule)) _ _ e in
+    let k = first-good (not (isBase base)) _ _ e in
+    let a = first-good (ruleBad (sender .rule)) _ _ (k .1) in
     let b = first-good (timeBad sent) _ _ (a .1) in
     let c = first-good (noDay base (sent .date)) _ _ (b .1) in
     let d = first-good (headBad head) _ _ (c .1) in
@@ -78,6 +79,7 @@ fit base sender sent head e =
     let u = date-good base (sent .date) (c .0) in
     let y = inside base (namedMinute sent .date .year) (telegramReading sender sent .year) (g .0) in
     record {
+      base-good = not-false _ (k .0);
       rule = a .0;
       hour = t .0;
       minute = t .1;
@@ -141,7 +143,7 @@ unfolding announcesLeap closedMinute leapDateBad leapMinute
 configured base None u e = refl
 configured base (Closes t) u e = closed t (u .date) (u .minute) (not-false (closesWithLeap t) (neither (noDay base t) (not (closesWithLeap t)) e .1))
 
-module _ (base : ℕ) (b : Base base) (sender : Sender) (sent : Sent) (head : ℕ) (p : Fit base sender sent head) where
+module _ (base : ℕ) (sender : Sender) (sent : Sent) (head : ℕ) (p : Fit base sender sent head) where
   sent-real : Real (utcSent sent .date)
   unfolding utcSent
   sent-real = real (sent .date) (p .date)
@@ -151,7 +153,7 @@ module _ (base : ℕ) (b : Base base) (sender : Sender) (sent : Sent) (head : �
 
   sent-before-last : dayNumber (utcSent sent .date) < lastNumber
   unfolding utcSent
-  sent-before-last = before-last (sent .date) (real (sent .date) (p .date)) (omega (arith, hundred base (sent .date .year) (p .year) .1, b .to))
+  sent-before-last = before-last (sent .date) (real (sent .date) (p .date)) (omega (arith, hundred base (sent .date .year) (p .year) .1, starts-between base))
 
   -- "the following minute": one minute after the one that is being sent
   pub named-next : Next (utcSent sent) (namedMinute sent)
@@ -161,7 +163,7 @@ module _ (base : ℕ) (b : Base base) (sender : Sender) (sent : Sent) (head : �
   named-inner : Inner (namedMinute sent .date)
   named-inner =
       let h = hundred base (namedMinute sent .date .year) (p .utc-year) in
-      inner (namedMinute sent .date) (named-next .real) (omega (arith, b .from)) (omega (arith, b .to))
+      inner (namedMinute sent .date) (named-next .real) (omega (arith, starts-between base)) (omega (arith, starts-between base))
 
   abbrev offset : ℤ
   offset = offsetIn (namedSummer sender sent)
@@ -192,6 +194,7 @@ module _ (base : ℕ) (b : Base base) (sender : Sender) (sent : Sent) (head : �
         checked =
             is-checked base r
             (record {
+              base-good = p .base-good;
               hour = l .1;
               minute = l .2;
               second = omega (arith, f .0);

@@ -9,11 +9,11 @@ use Rattle.calendar.specs.Calendar.{leapYear, daysIn, daysBefore, yearLength, d
 use Rattle.reading.specs.declared.Reading.{Reading}
 use Rattle.reading.specs.declared.Written.the-variants.{Length}
 use Rattle.reading.specs.Offset.{west, east}
-use Rattle.reading.specs.Years.{base, inHundred}
+use Rattle.reading.specs.Years.{usualBase as base, isBase, firstYear, inHundred}
+use Rattle.reading.proofs.YearLaws.{usual-base}
 use Rattle.reading.specs.Universal.{onDay, minuteAfter, withinDay, localMinutes, shownAt, localAt}
 use Rattle.reading.specs.Writing.{writtenOf, filled}
 use Rattle.reading.proofs.CheckLaws.{clash}
-use Rattle.reading.proofs.UtcLaws.{base-fine}
 use Rattle.dcf77.specs.declared.Answer.the-variants.{Time}
 use Rattle.dcf77.specs.Zones.{offsetIn}
 use Rattle.dcf77.specs.Forms.{lengthOf, dueLong}
@@ -57,7 +57,7 @@ unfolding telegramFault roomFault needed sendFault faultWith headBad timeBad lea
     ruleBad setDayBad weekdayBad dateBad tooLate crossed dayIn
     telegramReading namedSummer namedMinute utcSent announcesLeap minuteAfter localAt shownAt localMinutes withinDay onDay west east offsetIn
     isSummer changed announcesChange hourBefore daysUntil dueLong lengthOf
-    leapYear daysIn daysBefore yearLength daysBeforeYear dayOfYear dayNumber weekdayOf isMonth lastDay isDay isDate
+    leapYear daysIn daysBefore yearLength daysBeforeYear dayOfYear dayNumber weekdayOf isMonth lastDay isDay isDate firstYear isBase
 accepted = (refl, refl)
 
 minutes : (telegramReading plant (noon 0) .minute ≡ 1) × (telegramReading plant (noon 1) .minute ≡ 2)
@@ -78,8 +78,8 @@ Reads r = (sender : Sender) (sent : Sent) (head : ℕ) (out : List ℕ) (n : ℕ
 -- one minute for all
 pub not-one-minute : (r : Reading) → Reads r → ⊥
 not-one-minute r f =
-    let a = f plant (noon 0) 0 blank 60 (accepted .0) _ _ (telegram-reads base plant (noon 0) 0 blank base-fine 60 (accepted .0)) in
-    let b = f plant (noon 1) 0 blank 60 (accepted .1) _ _ (telegram-reads base plant (noon 1) 0 blank base-fine 60 (accepted .1)) in
+    let a = f plant (noon 0) 0 blank 60 (accepted .0) _ _ (telegram-reads base plant (noon 0) 0 blank 60 (accepted .0)) in
+    let b = f plant (noon 1) 0 blank 60 (accepted .1) _ _ (telegram-reads base plant (noon 1) 0 blank 60 (accepted .1)) in
     let m = ap (λ (q : Reading). q .minute) (a ∙ sym b) in
     omega (arith, minutes .0, minutes .1)
 
@@ -87,5 +87,5 @@ not-one-minute r f =
 pub not-as-found : ((sender : Sender) (sent : Sent) (head : ℕ) (out : List ℕ) → after sender sent head out ≡ out) → ⊥
 not-as-found f =
     let a : readDcf77 base (take 60 blank) ≡ Time (telegramReading plant (noon 0)) 0 =
-    rw (f plant (noon 0) 0 blank) at (telegram-reads base plant (noon 0) 0 blank base-fine 60 (accepted .0)) in
-    let z : _≡_ {A = ℕ} 0 1 = cc (no-marks base) in clash z
+    rw (f plant (noon 0) 0 blank) at (telegram-reads base plant (noon 0) 0 blank 60 (accepted .0)) in
+    let z : _≡_ {A = ℕ} 0 1 = cc (no-marks base usual-base) in clash z

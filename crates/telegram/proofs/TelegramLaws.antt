@@ -15,7 +15,6 @@ use Rattle.reading.specs.declared.Written.the-variants.{Length, No}
 use Rattle.reading.specs.Universal.{utcOf}
 use Rattle.reading.specs.Writing.{writtenOf, filled}
 use Rattle.reading.proofs.CheckLaws.{first-good}
-use Rattle.reading.proofs.UtcLaws.{Base}
 use Rattle.reading.proofs.LocalLaws.{Next}
 use Rattle.dcf77.specs.declared.Answer.the-variants.{Time}
 use Rattle.dcf77.specs.Forms.{shortLength, lengthOf, dueLong}
@@ -34,12 +33,12 @@ use Rattle.telegram.proofs.SentLaws.{Fit, fit, named-next, utc-named, n
 
 -- ---- the telegram is what the DCF77 writer writes
 
-module _ (base : ℕ) (b : Base base) (sender : Sender) (sent : Sent) (head : ℕ) where
+module _ (base : ℕ) (sender : Sender) (sent : Sent) (head : ℕ) where
   -- where the sent minute is not refused, all is as the DCF77 writer has it of the reading of the named minute, room included
   pub as-written : (room : ℕ) → sendFault base sender sent head ≡ Good
       → telegramFault base sender sent head room ≡ writeFault base (telegramReading sender sent) head room
   unfolding telegramFault writeFault
-  as-written room e = rw (e, named-carried base b sender sent head (fit base sender sent head e))
+  as-written room e = rw (e, named-carried base sender sent head (fit base sender sent head e))
 
 -- a verdict with room for it is good where the verdict is
 room-good : (v : Verdict) (long : Bool) (room : ℕ) → roomFault v long room ≡ Good → v ≡ Good
@@ -81,7 +80,7 @@ module _ (base : ℕ) (sender : Sender) (sent : Sent) (head : ℕ) (out : List �
   abbrev verdict : Verdict
   verdict = telegramFault base sender sent head (length out)
 
-  module _ (b : Base base) (n : ℕ) (wrote : writtenOf verdict (lengthOf (dueLong (telegramReading sender sent))) ≡ Length n) where
+  module _ (n : ℕ) (wrote : writtenOf verdict (lengthOf (dueLong (telegramReading sender sent))) ≡ Length n) where
     abbrev good : sendFault base sender sent head ≡ Good
     good = not-refused base sender sent head (length out) (length-is verdict (lengthOf (dueLong (telegramReading sender sent))) n wrote .0)
 
@@ -89,7 +88,7 @@ module _ (base : ℕ) (sender : Sender) (sent : Sent) (head : ℕ) (out : List �
     p = fit base sender sent head good
 
     abbrev same : verdict ≡ writeFault base (telegramReading sender sent) head (length out)
-    same = as-written base b sender sent head (length out) good
+    same = as-written base sender sent head (length out) good
 
     -- it is read as the reading of the named minute, with its head
     pub telegram-reads : readDcf77 base (take n (filled verdict (bytesOf (telegramReading sender sent) head) out)) ≡ Time (telegramReading sender sent) head
@@ -97,21 +96,21 @@ module _ (base : ℕ) (sender : Sender) (sent : Sent) (head : ℕ) (out : List �
 
     -- whose UTC is one minute after the one that is being sent
     pub telegram-utc : Next (utcSent sent) (utcOf (telegramReading sender sent))
-    telegram-utc = rw (utc-named base b sender sent head p) (named-next base b sender sent head p)
+    telegram-utc = rw (utc-named base sender sent head p) (named-next base sender sent head p)
 
     -- which is summer exactly from the change of spring, included, to the change of autumn, excluded
     pub telegram-summer : let u = utcOf (telegramReading sender sent) in telegramReading sender sent .summer
         ≡ (leb (counted (changeDate (sender .rule .start) (u .date .year)) changeMinute) (counted (u .date) (u .minute))
         && not (leb (counted (changeDate (sender .rule .end) (u .date .year)) changeMinute) (counted (u .date) (u .minute))))
     telegram-summer =
-        rw (utc-named base b sender sent head p)
+        rw (utc-named base sender sent head p)
         (summer-is sender sent ∙ summer-between (sender .rule) (namedMinute sent .date) (namedMinute sent .minute) (p .rule))
 
     -- and which is long exactly where the minute that is being sent is 23:59 of the leap second's day
     pub telegram-long : n ≡ lengthOf (closedMinute (sender .leap) (utcSent sent))
     telegram-long =
         length-is verdict (lengthOf (dueLong (telegramReading sender sent))) n wrote .1
-        ∙ ap lengthOf (long-exactly base b sender sent head p)
+        ∙ ap lengthOf (long-exactly base sender sent head p)
 
   -- a refusal leaves the buffer as it was
   pub refused-untouched : (x : Refusal) → writtenOf verdict (lengthOf (dueLong (telegramReading sender sent))) ≡ No x

@@ -7,7 +7,7 @@ use Rattle.reading.specs.declared.Fault.the-variants.{SummerRule, Time, Date, Q
 use Rattle.reading.specs.Faults.{first}
 use Rattle.reading.specs.Years.{inHundred}
 use Rattle.reading.specs.Leap.{closesWithLeap}
-use Rattle.reading.specs.Checks.{hourBad, minuteBad, noDay}
+use Rattle.reading.specs.Checks.{onBase, hourBad, minuteBad, noDay}
 use Rattle.dcf77.specs.Forms.{dueLong}
 use Rattle.dcf77.specs.Writer.{headBad, roomFault}
 use Rattle.summer.specs.Rules.{ruleBad}
@@ -21,12 +21,13 @@ use Rattle.telegram.specs.Telegram.{namedMinute, telegramReading}
 unfoldable pub timeBad : Sent → Bool
 timeBad sent = hourBad (sent .hour) || minuteBad (sent .minute)
 
--- "a configured leap date that is no month end of 2000..2099 is 9"
+-- "a configured leap date that is no month end of 2000..2099 is 9"; by L12 "the base's hundred takes the place of 2000..2099"
 unfoldable pub leapDateBad : ℕ → LeapSecond → Bool
 leapDateBad base None = false
 leapDateBad base (Closes t) = noDay base t || not (closesWithLeap t)
 
--- "a named minute whose UTC or local year is outside 2000..2099 is 12, last"
+-- "a named minute whose UTC or local year is outside 2000..2099 is 12, last"; of the base's hundred likewise, since two digits name no
+-- other year
 unfoldable pub outside : ℕ → ℕ → ℕ → Bool
 outside base utcYear localYear = not (inHundred base utcYear && inHundred base localYear)
 
@@ -40,11 +41,12 @@ firstOf rule time date head leap year =
     (first leap (BadLeapSecond 0)
     (first year OutsideYears Good)))))
 
--- the same of what is to be sent, where the named minute has this local year
+-- the same of what is to be sent, with 19 before them, where the named minute has this local year
 unfoldable pub faultWith : ℕ → Sender → Sent → ℕ → ℕ → Verdict
 faultWith base sender sent head localYear =
-    firstOf (ruleBad (sender .rule)) (timeBad sent) (noDay base (sent .date)) (headBad head) (leapDateBad base (sender .leap))
-    (outside base (namedMinute sent .date .year) localYear)
+    onBase base
+    (firstOf (ruleBad (sender .rule)) (timeBad sent) (noDay base (sent .date)) (headBad head) (leapDateBad base (sender .leap))
+    (outside base (namedMinute sent .date .year) localYear))
 
 unfoldable pub sendFault : ℕ → Sender → Sent → ℕ → Verdict
 sendFault base sender sent head = faultWith base sender sent head (telegramReading sender sent .year)

@@ -1,8 +1,9 @@
--- What can be wrong with what is to be sent, with code and place: conditions and codes are L8's, and "Writers keep place 0."
+-- What can be wrong with what is to be sent, with code and place: conditions and codes are L8's, and L12's before them, and "Writers keep place 0."
 use mathlib.Core.List.{List, [], _∷_}
 use Prim.Native.Nat.{ℕ}
 use lib.Dec.{ltb}
 use Rattle.reading.specs.Checks.{noDay}
+use Rattle.reading.specs.Objections.{baseObjection}
 use Rattle.reading.specs.Refusals.{Objection, objection}
 use Rattle.dcf77.specs.Forms.{dueLong}
 use Rattle.dcf77.specs.Writer.{headBad, needed}
@@ -16,6 +17,7 @@ use Rattle.telegram.specs.Faults.{timeBad, leapDateBad, outside, sendFau
 unfoldable pub sendObjections : ℕ → Sender → Sent → ℕ → ℕ → List Objection
 sendObjections base sender sent head room =
     objection (ltb room (needed (sendFault base sender sent head) (dueLong (telegramReading sender sent)))) 1 0
+    ∷ baseObjection base
     ∷ objection (ruleBad (sender .rule)) 18 0
     ∷ objection (timeBad sent) 15 0
     ∷ objection (noDay base (sent .date)) 16 0
@@ -26,4 +28,4 @@ sendObjections base sender sent head room =
 
 -- the codes that it can be refused with
 abbrev pub sendCodes : List ℕ
-sendCodes = 1 ∷ 18 ∷ 15 ∷ 16 ∷ 17 ∷ 9 ∷ 12 ∷ []
+sendCodes = 1 ∷ 19 ∷ 18 ∷ 15 ∷ 16 ∷ 17 ∷ 9 ∷ 12 ∷ []

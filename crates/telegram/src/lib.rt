@@ -15,7 +15,6 @@ use reading::faults::refusal_of;
 use summer::SummerRule;
 ghost use mathlib.Core.Path.{_≡_};
 ghost use lib.ListN.{length};
-ghost use Rattle.reading.specs.Years.{base};
 ghost use Rattle.reading.specs.Writing.{writtenOf, filled};
 ghost use Rattle.dcf77.specs.Forms.{lengthOf, dueLong};
 ghost use Rattle.dcf77.specs.Writer.{bytesOf};
@@ -51,7 +50,7 @@ fn refuse(refusal: Refusal, out: &mut [u8]) -> Written
 
 impl Sender {
     // Writes the telegram that is sent during a minute, which names the minute after it.
-    pub fn write(self, sent: Sent, head: u16, out: &mut [u8]) -> Written
+    pub fn write(self, base: u16, sent: Sent, head: u16, out: &mut [u8]) -> Written
         ensures { λ w. ⌜ w ≡ writtenOf (telegramFault base self sent head (length (now (out .entry)))) (lengthOf (dueLong (telegramReading self sent))) ⌝ }
         ensures { λ w. ⌜ now (out .exit) ≡ filled (telegramFault base self sent head (length (now (out .entry)))) (bytesOf (telegramReading self sent) head) (now (out .entry)) ⌝ }
     {
@@ -60,9 +59,9 @@ impl Sender {
             return refuse(refusal_of(Fault::Length), out);
         }
         let r = telegram_reading(self, sent);
-        let verdict = send_fault(self, sent, head, r.year);
+        let verdict = send_fault(base, self, sent, head, r.year);
         match verdict {
-            Verdict::Good => Dcf77::write(r, head, out),
+            Verdict::Good => Dcf77::write(base, r, head, out),
             Verdict::Bad(fault) => refuse(refusal_of(fault), out),
         }
     }

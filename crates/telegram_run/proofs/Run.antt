@@ -8,7 +8,6 @@ use lib.ListN.{length, replicate}
 use lib.Seq.{take-at}
 use Rattle.reading.specs.declared.Reading.{Reading}
 use Rattle.reading.specs.declared.Verdict.the-variants.{Good}
-use Rattle.reading.proofs.UtcLaws.{Base}
 use Rattle.dcf77.specs.Forms.{lengthOf, lastOf, dueLong}
 use Rattle.dcf77.specs.Writer.{bytesOf, carryFault}
 use Rattle.dcf77.proofs.WriteLaws.{length-bytes}
@@ -37,7 +36,7 @@ successive sent =
     let m : namedMinute sent .minute / 60 * 60 + namedMinute sent .minute % 60 ≡ namedMinute sent .minute = omega arith in
     λ i. record { date = namedMinute sent .date; minute = m i }
 
-module _ (base : ℕ) (b : Base base) (sender : Sender) where
+module _ (base : ℕ) (sender : Sender) where
   module _ (sent : Sent) (call : Call) (good : telegramFault base sender sent (call .head) (length (call .buffer)) ≡ Good) where
     abbrev r : Reading
     r = telegramReading sender sent
@@ -48,7 +47,7 @@ module _ (base : ℕ) (b : Base base) (sender : Sender) where
     telegram-is = rw good (take-at (bytesOf r (call .head)) _ (lengthOf (dueLong r)) (length-bytes r (call .head)))
 
     carried : carryFault base r (call .head) ≡ Good
-    carried = named-carried base b sender sent (call .head) (fit base sender sent (call .head) (not-refused base sender sent (call .head) (length (call .buffer)) good))
+    carried = named-carried base sender sent (call .head) (fit base sender sent (call .head) (not-refused base sender sent (call .head) (length (call .buffer)) good))
 
   run-from : (before : List ℕ) (sent : Sent) (calls : List Call) → NoneRefused base sender sent calls
       → owedTo (owed base) (before ++ (2 ∷ [])) (telegramsFrom base sender sent calls) ≡ saidFrom sender sent calls
@@ -91,7 +90,7 @@ spoken-run sender sent (call ∷ calls) =
     ∙ ap (λ (l : List Said). Time r (call .head) ∷ l) (spoken-run sender (sentAfter sent) calls)
 
 -- "gives back every named minute in order"
-pub run-in-order : (base : ℕ) → Base base → (sender : Sender) (sent : Sent) (calls : List Call) → NoneRefused base sender sent calls
+pub run-in-order : (base : ℕ) (sender : Sender) (sent : Sent) (calls : List Call) → NoneRefused base sender sent calls
     → spoken (answers base (2 ∷ telegramsFrom base sender sent calls)) ≡ namedFrom sender sent calls
 unfolding spoken
-run-in-order base b sender sent calls p = ap spoken (run-told base b sender sent calls p) ∙ spoken-run sender sent calls
+run-in-order base sender sent calls p = ap spoken (run-told base sender sent calls p) ∙ spoken-run sender sent calls

@@ -7,7 +7,7 @@ use Prim.Native.Nat.{ℕ}
 use lib.ListN.{replicate}
 use Rattle.calendar.specs.Calendar.{leapYear, daysIn, daysBefore, yearLength, daysBeforeYear, dayOfYear, dayNumber, weekdayOf, isMonth, lastDay, isDay, isDate, dayAfter, dayBefore, yearAfter}
 use Rattle.reading.specs.Offset.{west, east}
-use Rattle.reading.specs.Years.{base, inHundred}
+use Rattle.reading.specs.Years.{usualBase as base, isBase, firstYear, inHundred}
 use Rattle.reading.specs.Leap.{closesWithLeap, afterLeap}
 use Rattle.reading.specs.Universal.{onDay, utcMinutes, utcOf, minuteAfter, withinDay, localMinutes, shownAt, localAt}
 use Rattle.dcf77.specs.Zones.{offsetIn}
@@ -51,7 +51,7 @@ unfolding sentAfter telegramFault roomFault needed sendFault faultWith headBad t
     ruleBad setDayBad weekdayBad dateBad tooLate crossed dayIn
     telegramReading namedSummer namedMinute utcSent sameDate announcesLeap minuteAfter localAt shownAt localMinutes withinDay onDay west east offsetIn
     utcOf utcMinutes isSummer changed announcesChange hourBefore daysUntil dueLong lengthOf
-    leapYear daysIn daysBefore yearLength daysBeforeYear dayOfYear dayNumber weekdayOf isMonth lastDay isDay isDate dayAfter dayBefore yearAfter
+    leapYear daysIn daysBefore yearLength daysBeforeYear dayOfYear dayNumber weekdayOf isMonth lastDay isDay isDate dayAfter dayBefore yearAfter firstYear isBase
 runs = ((refl, (refl, (refl, tt))), (refl, (refl, (refl, tt))), (refl, (refl, (refl, tt))))
 
 -- the one sent at 23:59 of the leap second's day is long

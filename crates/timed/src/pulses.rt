@@ -2,8 +2,8 @@
 use super::answers;
 use std::num::wrapping_add_u64;
 
-pub(crate) fn frames(pulses: &[u8]) -> u64 {
-    let mut reader = irig_stream::PulseReader::fresh();
+pub(crate) fn frames(base: u16, pulses: &[u8]) -> u64 {
+    let mut reader = irig_stream::PulseReader::fresh(base);
     let mut sum: u64 = 0;
     let mut i = 0;
     while i < pulses.len() {
@@ -16,8 +16,8 @@ pub(crate) fn frames(pulses: &[u8]) -> u64 {
     sum
 }
 
-pub(crate) fn minutes(symbols: &[u8]) -> u64 {
-    let mut reader = dcf77_stream::PulseReader::fresh();
+pub(crate) fn minutes(base: u16, symbols: &[u8]) -> u64 {
+    let mut reader = dcf77_stream::PulseReader::fresh(base);
     let mut sum: u64 = 0;
     let mut i = 0;
     while i < symbols.len() {

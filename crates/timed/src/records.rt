@@ -10,14 +10,14 @@ use irig::Ieee1344;
 use std::num::wrapping_add_u64;
 ghost use Prim.Native.Nat.{_<_, _≤_};
 
-fn once(op: u8, given: &[u8], page: &mut [u8]) -> u64 {
+fn once(base: u16, op: u8, given: &[u8], page: &mut [u8]) -> u64 {
     match op {
-        1 => answers::of_string(read(given)),
-        3 => answers::of_frame(Ieee1344::read(given)),
-        4 => answers::of_minute(Dcf77::read(given)),
-        13 => answers::of_written(bridge(given, page)),
-        14 => answers::of_written(bridge_with(given, Coasting::Dropped, page)),
-        15 => sent::written(given, page),
+        1 => answers::of_string(read(base, given)),
+        3 => answers::of_frame(Ieee1344::read(base, given)),
+        4 => answers::of_minute(Dcf77::read(base, given)),
+        13 => answers::of_written(bridge(base, given, page)),
+        14 => answers::of_written(bridge_with(base, given, Coasting::Dropped, page)),
+        15 => sent::written(base, given, page),
         _ => given.len() as u64,
     }
 }
@@ -37,12 +37,12 @@ pub(crate) fn end_of(at: usize, size: usize, length: usize) -> usize
     at + size
 }
 
-pub(crate) fn over(op: u8, size: usize, records: &[u8], page: &mut [u8]) -> u64 {
+pub(crate) fn over(base: u16, op: u8, size: usize, records: &[u8], page: &mut [u8]) -> u64 {
     let mut sum: u64 = 0;
     let mut at = 0;
     while at < records.len() {
         let end = end_of(at, size, records.len());
-        sum = wrapping_add_u64(sum, once(op, &records[at..end], page));
+        sum = wrapping_add_u64(sum, once(base, op, &records[at..end], page));
         at = end;
     }
     sum

@@ -58,21 +58,21 @@ fn sent_in(given: &[u8]) -> Sent
     }
 }
 
-fn send(given: &[u8], out: &mut [u8]) -> u64
+fn send(base: u16, given: &[u8], out: &mut [u8]) -> u64
     requires { ⌜ 20 ≤ length (now given) ⌝ }
 {
     let sender = Sender {
         rule: rule_in(given),
         leap: leap_in(given),
     };
-    answers::of_written(sender.write(sent_in(given), two(given[17], given[18]), out))
+    answers::of_written(sender.write(base, sent_in(given), two(given[17], given[18]), out))
 }
 
 // The sender is lent as many bytes of the page as the record says.
-pub(crate) fn written(given: &[u8], page: &mut [u8]) -> u64 {
+pub(crate) fn written(base: u16, given: &[u8], page: &mut [u8]) -> u64 {
     if given.len() < LENGTH {
         return 0;
     }
     let room = io::count(signed(given[19]), page);
-    send(given, &mut page[..room])
+    send(base, given, &mut page[..room])
 }

@@ -25,29 +25,29 @@ fn readings_in(size: usize, records: &[u8]) -> [Reading; 600] {
     readings
 }
 
-fn write_by(op: u8, r: Reading, given: &[u8], out: &mut [u8]) -> u64
+fn write_by(base: u16, op: u8, r: Reading, given: &[u8], out: &mut [u8]) -> u64
     requires { ⌜ 15 ≤ length (now given) ⌝ }
 {
     let beside = fields::beside(given);
     match op {
-        5 => answers::of_written(Meinberg::write(r, beside != 0, out)),
-        6 => answers::of_written(Erlangen::write(r, beside != 0, &given[15..], out)),
-        7 => answers::of_written(Ieee1344::write(r, out)),
-        8 => answers::of_written(Dcf77::write(r, beside, out)),
+        5 => answers::of_written(Meinberg::write(base, r, beside != 0, out)),
+        6 => answers::of_written(Erlangen::write(base, r, beside != 0, &given[15..], out)),
+        7 => answers::of_written(Ieee1344::write(base, r, out)),
+        8 => answers::of_written(Dcf77::write(base, r, beside, out)),
         _ => beside as u64,
     }
 }
 
 // A writer is lent as many bytes of the page as its record says.
-fn write_part(op: u8, r: Reading, given: &[u8], page: &mut [u8]) -> u64 {
+fn write_part(base: u16, op: u8, r: Reading, given: &[u8], page: &mut [u8]) -> u64 {
     if given.len() < fields::LENGTH {
         return 0;
     }
     let room = io::count(fields::signed(given[14]), page);
-    write_by(op, r, given, &mut page[..room])
+    write_by(base, op, r, given, &mut page[..room])
 }
 
-pub(crate) fn over(op: u8, size: usize, records: &[u8], page: &mut [u8]) -> u64 {
+pub(crate) fn over(base: u16, op: u8, size: usize, records: &[u8], page: &mut [u8]) -> u64 {
     let readings = readings_in(size, records);
     let mut sum: u64 = 0;
     let mut n = 0;
@@ -55,7 +55,7 @@ pub(crate) fn over(op: u8, size: usize, records: &[u8], page: &mut [u8]) -> u64 
     while at < records.len() && n < 600 {
         let end = end_of(at, size, records.len());
         let r = readings[n];
-        sum = wrapping_add_u64(sum, write_part(op, r, &records[at..end], page));
+        sum = wrapping_add_u64(sum, write_part(base, op, r, &records[at..end], page));
         n += 1;
         at = end;
     }

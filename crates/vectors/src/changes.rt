@@ -21,15 +21,15 @@ fn verdict_of(told: Told) -> Refusal {
 }
 
 // What a reader says with another byte at a place, which is put back.
-fn verdict_changed(format: u8, input: &mut [u8], place: usize, byte: u8) -> Refusal {
+fn verdict_changed(base: u16, format: u8, input: &mut [u8], place: usize, byte: u8) -> Refusal {
     if place < input.len() {
         let kept = input[place];
         input[place] = byte;
-        let verdict = verdict_of(told_by(format, input));
+        let verdict = verdict_of(told_by(base, format, input));
         input[place] = kept;
         return verdict;
     }
-    verdict_of(told_by(format, input))
+    verdict_of(told_by(base, format, input))
 }
 
 fn print_change(place: usize, byte: u8, verdict: Refusal) {
@@ -44,13 +44,13 @@ fn print_change(place: usize, byte: u8, verdict: Refusal) {
 
 // How many of one change, 1 or 0, is refused by code 2 at its place; else it is printed. The changes are counted from 0, 256
 // for each place.
-fn try_change(format: u8, input: &mut [u8], change: usize) -> u64 {
+fn try_change(base: u16, format: u8, input: &mut [u8], change: usize) -> u64 {
     let place = change / 256;
     let byte = (change % 256) as u8;
     if field(input, place) == byte {
         return 0;
     }
-    let verdict = verdict_changed(format, input, place, byte);
+    let verdict = verdict_changed(base, format, input, place, byte);
     if (verdict.code == 2) & (verdict.place as usize == place) {
         return 1;
     }
@@ -58,34 +58,34 @@ fn try_change(format: u8, input: &mut [u8], change: usize) -> u64 {
     0
 }
 
-fn try_changes(format: u8, input: &mut [u8], changes: usize) -> u64 {
+fn try_changes(base: u16, format: u8, input: &mut [u8], changes: usize) -> u64 {
     let mut others: u64 = 0;
     let mut change = 0;
     while change < changes {
-        others = wrapping_add_u64(others, try_change(format, input, change));
+        others = wrapping_add_u64(others, try_change(base, format, input, change));
         change += 1;
     }
     others
 }
 
 // The changes of the input that stands at the start of a copy.
-fn print_changes(format: u8, copy: &mut [u8], length: usize)
+fn print_changes(base: u16, format: u8, copy: &mut [u8], length: usize)
     requires { ⌜ length ≤ 128 ⌝ }
 {
     print_word(b"changes");
     let n = io::count(length as isize, copy);
-    let others = try_changes(format, &mut copy[..n], 256 * length);
+    let others = try_changes(base, format, &mut copy[..n], 256 * length);
     print_word(b" others");
     print_number(b' ', others)
 }
 
 // 1 clock strings, 3 IEEE 1344, 4 DCF77. An input of more than 128 bytes is longer than any of theirs, and bad.
-pub(crate) fn every_change(format: u8, payload: &[u8]) {
+pub(crate) fn every_change(base: u16, format: u8, payload: &[u8]) {
     if 128 < payload.len() {
         return print_word(b"bad");
     }
     let mut space = [0u8; 128];
     let copy: &mut [u8] = &mut space;
     put_at(copy, 0, payload);
-    print_changes(format, copy, payload.len())
+    print_changes(base, format, copy, payload.len())
 }

@@ -26,9 +26,9 @@ fn minute_said(count: usize, said: dcf77_stream::Said) {
     }
 }
 
-pub(crate) fn fed_frames(pulses: &[u8]) {
+pub(crate) fn fed_frames(base: u16, pulses: &[u8]) {
     print_word(b"said");
-    let mut reader = irig_stream::PulseReader::fresh();
+    let mut reader = irig_stream::PulseReader::fresh(base);
     let mut i = 0;
     while i < pulses.len() {
         let s = reader.step(pulses[i]);
@@ -39,9 +39,9 @@ pub(crate) fn fed_frames(pulses: &[u8]) {
     }
 }
 
-pub(crate) fn fed_minutes(symbols: &[u8]) {
+pub(crate) fn fed_minutes(base: u16, symbols: &[u8]) {
     print_word(b"said");
-    let mut reader = dcf77_stream::PulseReader::fresh();
+    let mut reader = dcf77_stream::PulseReader::fresh(base);
     let mut i = 0;
     while i < symbols.len() {
         let s = reader.step(symbols[i]);

@@ -19,8 +19,8 @@ fn print_page(page: &mut [u8], end: usize) {
     print_word(&page[..i])
 }
 
-pub(crate) fn listed(page: &mut [u8], book: &[u8]) {
-    match listing::list(book, page) {
+pub(crate) fn listed(base: u16, page: &mut [u8], book: &[u8]) {
+    match listing::list(base, book, page) {
         Written::Length(n) => print_page(page, n),
         Written::No(_) => print_word(b"bad"),
     }

@@ -28,19 +28,20 @@ fn cut_off(came: usize) -> bool {
 
 // Reads a case, prints its line, and says whether to go on.
 fn one_case(space: &mut [u8], page: &mut [u8]) -> bool {
-    let mut head = [0u8; 3];
+    let mut head = [0u8; 5];
     let got = io::read_full(0, &mut head);
-    if got < 3 {
+    if got < 5 {
         return cut_off(got);
     }
-    let n = fields::pair(&head, 1) as isize;
+    let base = fields::pair(&head, 1);
+    let n = fields::pair(&head, 3) as isize;
     let whole = io::count(n, space);
     let came = io::read_full(0, &mut space[..whole]);
     if came < whole {
         return cut_off(got);
     }
     let part = io::count(n, space);
-    answers::answer(page, head[0], &space[..part]);
+    answers::answer(page, head[0], base, &space[..part]);
     io::write_all(1, b"\n")
 }
 

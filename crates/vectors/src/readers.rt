@@ -48,11 +48,11 @@ fn of_minute(answer: dcf77::Answer) -> Told {
 }
 
 // 1 clock strings, 3 IEEE 1344, 4 DCF77.
-pub(crate) fn told_by(format: u8, input: &[u8]) -> Told {
+pub(crate) fn told_by(base: u16, format: u8, input: &[u8]) -> Told {
     match format {
-        1 => of_string(clock_string::read(input)),
-        3 => of_frame(Ieee1344::read(input)),
-        _ => of_minute(Dcf77::read(input)),
+        1 => of_string(clock_string::read(base, input)),
+        3 => of_frame(Ieee1344::read(base, input)),
+        _ => of_minute(Dcf77::read(base, input)),
     }
 }
 
@@ -101,10 +101,10 @@ pub(crate) fn print_told(mark: u8, told: Told) {
 }
 
 // The line of a reader; that of clock strings has the position part too.
-pub(crate) fn read_by(format: u8, payload: &[u8]) {
-    print_told(b' ', told_by(format, payload));
+pub(crate) fn read_by(base: u16, format: u8, payload: &[u8]) {
+    print_told(b' ', told_by(base, format, payload));
     if format == 1 {
         print_word(b" part ");
-        print_hex(clock_string::position_part(payload))
+        print_hex(clock_string::position_part(base, payload))
     }
 }

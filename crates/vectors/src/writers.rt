@@ -29,33 +29,33 @@ fn behind(payload: &[u8], first: usize) -> &[u8] {
 }
 
 // 5 Meinberg, 6 Uni Erlangen, 7 IEEE 1344, 8 DCF77, from a reading, what stands beside it and the position part.
-fn write_by(op: u8, payload: &[u8], buffer: &mut [u8]) -> Written {
+fn write_by(base: u16, op: u8, payload: &[u8], buffer: &mut [u8]) -> Written {
     let r = reading_in(payload);
     let beside = pair(payload, 12);
     match op {
-        5 => Meinberg::write(r, beside != 0, buffer),
-        6 => Erlangen::write(r, beside != 0, behind(payload, 15), buffer),
-        7 => Ieee1344::write(r, buffer),
-        _ => Dcf77::write(r, beside, buffer),
+        5 => Meinberg::write(base, r, beside != 0, buffer),
+        6 => Erlangen::write(base, r, beside != 0, behind(payload, 15), buffer),
+        7 => Ieee1344::write(base, r, buffer),
+        _ => Dcf77::write(base, r, beside, buffer),
     }
 }
 
 // A telegram, from what a plant configures, the minute that is being sent and a head.
-fn send(payload: &[u8], buffer: &mut [u8]) -> Written {
+fn send(base: u16, payload: &[u8], buffer: &mut [u8]) -> Written {
     let sender = Sender {
         rule: rule_in(payload),
         leap: leap_in(payload),
     };
-    sender.write(sent_in(payload), pair(payload, 17), buffer)
+    sender.write(base, sent_in(payload), pair(payload, 17), buffer)
 }
 
 // 10 is the bridge: the room and the string; 16 has between them what becomes of the coasting mark; 15 is a telegram.
-fn write_all_by(op: u8, payload: &[u8], buffer: &mut [u8]) -> Written {
+fn write_all_by(base: u16, op: u8, payload: &[u8], buffer: &mut [u8]) -> Written {
     match op {
-        10 => bridge(behind(payload, 1), buffer),
-        15 => send(payload, buffer),
-        16 => bridge_with(behind(payload, 2), way_in(payload), buffer),
-        _ => write_by(op, payload, buffer),
+        10 => bridge(base, behind(payload, 1), buffer),
+        15 => send(base, payload, buffer),
+        16 => bridge_with(base, behind(payload, 2), way_in(payload), buffer),
+        _ => write_by(base, op, payload, buffer),
     }
 }
 
@@ -98,18 +98,18 @@ fn told_with(answer: Written, buffer: &[u8]) {
 }
 
 // Writes into as many bytes of the buffer as the payload says.
-fn write_part(op: u8, payload: &[u8], buffer: &mut [u8]) {
+fn write_part(base: u16, op: u8, payload: &[u8], buffer: &mut [u8]) {
     let room = io::count(room_in(op, payload) as isize, buffer);
-    let answer = write_all_by(op, payload, &mut buffer[..room]);
+    let answer = write_all_by(base, op, payload, &mut buffer[..room]);
     let lent = io::count(room_in(op, payload) as isize, buffer);
     told_with(answer, &buffer[..lent])
 }
 
 // Each byte of the buffer was 165 before.
-pub(crate) fn written(op: u8, payload: &[u8]) {
+pub(crate) fn written(base: u16, op: u8, payload: &[u8]) {
     if is_whole(op, payload) {
         let mut space = [165u8; 256];
-        return write_part(op, payload, &mut space);
+        return write_part(base, op, payload, &mut space);
     }
     print_word(b"bad")
 }

@@ -1,16 +1,17 @@
 -- "Cases 1 to 10 are proved of the written definitions by a single statement over a list of them." The same statement holds of
 -- a second list, which pins codes, letters and pulses that the cases leave open, of a third of month ends, of a fourth of places, of
--- a fifth of telegrams, of a sixth of both clock strings, of a seventh of coasting marks, and of an eighth of quarter hours.
+-- a fifth of telegrams, of a sixth of both clock strings, of a seventh of coasting marks, of an eighth of quarter hours, and of
+-- a ninth of the nineties.
 use mathlib.Core.List.{List, map}
 use mathlib.Core.Path.{_≡_, refl}
 use Rattle.calendar.specs.Calendar.{leapYear, daysIn, daysBefore, yearLength, daysBeforeYear, dayOfYear, dayNumber, weekdayOf, isMonth, lastDay, isDay, isDate, dayBefore, dayAfter, yearAfter, monthUpTo, inYear, monthDay}
 use Rattle.reading.specs.Faults.{number}
 use Rattle.reading.specs.Offset.{west, east, offsetGood, localOf}
-use Rattle.reading.specs.Years.{inHundred, yearOf}
+use Rattle.reading.specs.Years.{isBase, firstYear, inHundred, yearOf}
 use Rattle.reading.specs.Universal.{utcMinutes, onDay, utcOf, minuteAfter, withinDay, localMinutes, shownAt, localAt}
 use Rattle.reading.specs.Leap.{closesWithLeap, leapMinute, sixtyBad, withinMinute, leapWindow, changeWindow, afterLeap}
-use Rattle.reading.specs.Checks.{timeBad, dateBad, checkedOf, dayBad, monthBad, weekdayWrong}
-use Rattle.reading.specs.Stamps.{hasStamp, stampNumber, stampAt, stampOf}
+use Rattle.reading.specs.Checks.{timeBad, dateBad, soundOf, checkedOf, dayBad, monthBad, weekdayWrong}
+use Rattle.reading.specs.Stamps.{hasStamp, countOf, countZero, stampNumber, stampAt, stampOf}
 use Rattle.wire.specs.Digits.{digit, pair, tens, ones}
 use Rattle.wire.specs.Layout.{packed, exactly, from, either, oneOf, within, beside, allowed, goodPlaces, printable, printables}
 use Rattle.strings.specs.Checks as strings
@@ -44,7 +45,7 @@ use Rattle.text.specs.Decimal.{digitsBefore, decimal}
 use Rattle.book.specs.Body.{bodyLength, readBody}
 use Rattle.book.specs.Book.{recordAt, nextAt, recordsFrom}
 use Rattle.listing.specs.Listing.{lineAt, linesOf, bodyText, listing}
-use Rattle.worked.specs.Questions.{Case, answerTo}
+use Rattle.worked.specs.Questions.{Case, answerBy, answerTo}
 use Rattle.worked.specs.Given.{withOnes, turned}
 use Rattle.worked.specs.Cases.{cases}
 use Rattle.worked.specs.Pinned.{pinned}
@@ -54,15 +55,16 @@ use Rattle.worked.specs.Telegrams.{telegrams}
 use Rattle.worked.specs.ClockStrings.{clockStrings}
 use Rattle.worked.specs.CoastingMarks.{coastingMarks}
 use Rattle.worked.specs.Quarters.{quarters}
+use Rattle.worked.specs.Nineties.{nineties}
 
 -- each question of the list is answered as the paper answers it
 abbrev pub AsPaper : List Case → Type 0
 AsPaper l = map (λ (c : Case). answerTo (c .asked)) l ≡ map (λ (c : Case). c .answer) l
 
-pub worked : AsPaper cases × AsPaper pinned × AsPaper monthEnds × AsPaper places × AsPaper telegrams × AsPaper clockStrings × AsPaper coastingMarks × AsPaper quarters
-unfolding cases pinned monthEnds places telegrams clockStrings coastingMarks quarters withOnes turned answerTo
-    stampOf stampAt stampNumber hasStamp checkedOf timeBad dateBad sixtyBad leapMinute closesWithLeap afterLeap withinMinute leapWindow changeWindow
-    utcOf onDay utcMinutes inHundred yearOf west east offsetGood localOf number
+pub worked : AsPaper cases × AsPaper pinned × AsPaper monthEnds × AsPaper places × AsPaper telegrams × AsPaper clockStrings × AsPaper coastingMarks × AsPaper quarters × AsPaper nineties
+unfolding cases pinned monthEnds places telegrams clockStrings coastingMarks quarters nineties withOnes turned answerBy answerTo
+    stampOf stampAt countOf countZero stampNumber hasStamp soundOf checkedOf timeBad dateBad sixtyBad leapMinute closesWithLeap afterLeap withinMinute leapWindow changeWindow
+    utcOf onDay utcMinutes isBase firstYear inHundred yearOf west east offsetGood localOf number
     leapYear daysIn daysBefore yearLength daysBeforeYear dayOfYear dayNumber weekdayOf
     isMonth lastDay isDay isDate dayBefore dayAfter yearAfter monthUpTo inYear monthDay
     digit pair tens ones packed exactly from either oneOf within beside allowed goodPlaces printable printables
@@ -95,4 +97,4 @@ unfolding cases pinned monthEnds places telegrams clockStrings coastingMarks qua
     utcSent namedMinute namedSummer sameDate announcesLeap telegramReading
     sending.timeBad sending.leapDateBad sending.outside sending.faultWith sending.sendFault sending.telegramFault
     bodyLength readBody recordAt nextAt recordsFrom decimal digitsBefore lineAt linesOf bodyText listing
-worked = (refl, refl, refl, refl, refl, refl, refl, refl)
+worked = (refl, refl, refl, refl, refl, refl, refl, refl, refl)

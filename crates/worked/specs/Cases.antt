@@ -17,6 +17,7 @@ use Rattle.worked.specs.Questions.{
   toMarks,
   day,
   stamped,
+  stampedBefore,
   told,
   toldErlangen,
   toldMinute,
@@ -71,10 +72,10 @@ cases =
     -- 8. 2024-02-29 12:34, offset +4, head 0: the ones of the DCF77 minute, 2 at 59
     ∷ gives (toMarks case8 0 (sevens 62)) (wrote 60 (minute8 ++ sevens 2))
     ∷ gives (marks minute8) (toldMinute case8 0)
-    -- 9. 2000-01-01 00:30:00, offset +4: accepted, its stamp is code 12
+    -- 9. 2000-01-01 00:30:00, offset +4: accepted, its stamp is code 12, which by L12 "is now -1801"
     ∷ gives (toPulses case9 (sevens 100)) (wrote 100 frame9)
     ∷ gives (pulses frame9) (told case9)
-    ∷ gives (stamp case9) (refused 12 0)
+    ∷ gives (stamp case9) (stampedBefore 1801)
     -- 10. case 6's date and time: offset +56 accepted, +57 code 8; -48 accepted, -49 code 8. (No frame can say +57 or -49; the refused ones say half an hour too much.)
     ∷ gives (toPulses (case6 (plus 56)) (sevens 100)) (wrote 100 (frame10 (64 ∷ 66 ∷ 67 ∷ 68 ∷ 75 ∷ [])))
     ∷ gives (pulses (frame10 (64 ∷ 66 ∷ 67 ∷ 68 ∷ 75 ∷ []))) (told (case6 (plus 56)))

@@ -8,3 +8,4 @@ pub mod Telegrams
 pub mod ClockStrings
 pub mod CoastingMarks
 pub mod Quarters
+pub mod Nineties

@@ -2,7 +2,8 @@
 -- bridge, the sender and the listing cite.
 use mathlib.Core.Bool.{Bool}
 use mathlib.Core.List.{List}
-use Prim.Native.Nat.{ℕ}
+use Prim.Native.Nat.{ℕ, suc}
+use lib.IntN.{ℤ, pos, negsuc}
 use lib.ListN.{length}
 use Rattle.calendar.specs.declared.Date.{Date}
 use Rattle.calendar.specs.Calendar.{weekdayOf}
@@ -12,7 +13,7 @@ use Rattle.reading.specs.declared.Written.{Written}
 use Rattle.reading.specs.declared.Written.the-variants as writing
 use Rattle.reading.specs.declared.Stamp.{Stamp}
 use Rattle.reading.specs.declared.Stamp.the-variants.{At, Refused}
-use Rattle.reading.specs.Years.{base}
+use Rattle.reading.specs.Years.{usualBase}
 use Rattle.reading.specs.Stamps.{stampOf}
 use Rattle.reading.specs.Writing.{writtenOf, filled}
 use Rattle.clock_string.specs.declared.Answer as strings
@@ -69,6 +70,8 @@ pub data Question : Type 0 where
   telegram : Sender → Sent → ℕ → List ℕ → Question
   -- the listing of a book
   listed : List ℕ → Question
+  -- any of these with a base; without one it is 2000
+  withBase : ℕ → Question → Question
 
 -- the same where nothing is named
 abbrev pub bridged : List ℕ → List ℕ → Question
@@ -77,7 +80,9 @@ bridged s out = bridgedWith Worse s out
 pub data Answer : Type 0 where
   day : ℕ → Answer
   date : ℕ → ℕ → ℕ → Answer
+  -- a stamp, and one that lies so far before 0
   stamped : ℕ → Answer
+  stampedBefore : ℕ → Answer
   -- a reading, alone, or with the coasting mark of the string that is named or with the head beside it
   told : Reading → Answer
   toldMeinberg : Reading → Bool → Answer
@@ -96,8 +101,12 @@ pub data Answer : Type 0 where
 abbrev pub ofDate : Date → Answer
 ofDate t = date (t .year) (t .month) (t .day)
 
+abbrev pub ofNumber : ℤ → Answer
+ofNumber (pos n) = stamped n
+ofNumber (negsuc n) = stampedBefore (suc n)
+
 abbrev pub ofStamp : Stamp → Answer
-ofStamp (At v) = stamped v
+ofStamp (At v) = ofNumber (v .0)
 ofStamp (Refused x) = refused (x .code) (x .place)
 
 abbrev pub ofString : strings.Answer → Answer
@@ -106,10 +115,10 @@ ofString (string.Erlangen r coasting) = toldErlangen r coasting
 ofString (string.No x) = refused (x .code) (x .place)
 
 -- the stamp of a string's answer; a refused string has its own refusal
-abbrev pub stampOfAnswer : strings.Answer → Answer
-stampOfAnswer (string.Meinberg r coasting) = ofStamp (stampOf base r)
-stampOfAnswer (string.Erlangen r coasting) = ofStamp (stampOf base r)
-stampOfAnswer (string.No x) = refused (x .code) (x .place)
+abbrev pub stampOfAnswer : ℕ → strings.Answer → Answer
+stampOfAnswer base (string.Meinberg r coasting) = ofStamp (stampOf base r)
+stampOfAnswer base (string.Erlangen r coasting) = ofStamp (stampOf base r)
+stampOfAnswer base (string.No x) = refused (x .code) (x .place)
 
 abbrev pub ofFrame : frames.Answer → Answer
 ofFrame (frame.Time r) = told r
@@ -127,27 +136,31 @@ ofWritten (writing.No x) after = wroteNone (x .code) (x .place) after
 abbrev pub afterWriting : Verdict → ℕ → List ℕ → List ℕ → Answer
 afterWriting v n bytes out = ofWritten (writtenOf v n) (filled v bytes out)
 
--- ---- the written definitions' answer
+-- ---- the written definitions' answer, with a base
 
-unfoldable pub answerTo : Question → Answer
-answerTo (weekday t) = day (weekdayOf t)
-answerTo (stamp r) = ofStamp (stampOf base r)
-answerTo (stampOfString s) = stampOfAnswer (readString base s)
-answerTo (clockString s) = ofString (readString base s)
-answerTo (positionPart s) = text (positionOf base s)
-answerTo (pulses s) = ofFrame (readFrame base s)
-answerTo (marks s) = ofMinute (readDcf77 base s)
-answerTo (toMeinberg r coasting out) = afterWriting (meinbergFault base r (length out)) textLength (meinbergBytes r coasting) out
-answerTo (toErlangen r coasting position out) =
+unfoldable pub answerBy : ℕ → Question → Answer
+answerBy base (weekday t) = day (weekdayOf t)
+answerBy base (stamp r) = ofStamp (stampOf base r)
+answerBy base (stampOfString s) = stampOfAnswer base (readString base s)
+answerBy base (clockString s) = ofString (readString base s)
+answerBy base (positionPart s) = text (positionOf base s)
+answerBy base (pulses s) = ofFrame (readFrame base s)
+answerBy base (marks s) = ofMinute (readDcf77 base s)
+answerBy base (toMeinberg r coasting out) = afterWriting (meinbergFault base r (length out)) textLength (meinbergBytes r coasting) out
+answerBy base (toErlangen r coasting position out) =
     afterWriting (erlangenFault base r position (length out)) size (erlangenBytes r coasting position) out
-answerTo (toPulses r out) = afterWriting (frameFault base r (length out)) frameLength (frameOf r) out
-answerTo (toMarks r head out) = afterWriting (minuteFault base r head (length out)) (lengthOf (dueLong r)) (minuteBytes r head) out
-answerTo (bridgedWith way s out) = ofWritten (bridgeAnswer base s (length out)) (bridgeFilled way base s out)
-answerTo (changeOn s y) = ofDate (changeDate s y)
-answerTo (telegram sender sent head out) =
+answerBy base (toPulses r out) = afterWriting (frameFault base r (length out)) frameLength (frameOf r) out
+answerBy base (toMarks r head out) = afterWriting (minuteFault base r head (length out)) (lengthOf (dueLong r)) (minuteBytes r head) out
+answerBy base (bridgedWith way s out) = ofWritten (bridgeAnswer base s (length out)) (bridgeFilled way base s out)
+answerBy base (changeOn s y) = ofDate (changeDate s y)
+answerBy base (telegram sender sent head out) =
     afterWriting (telegramFault base sender sent head (length out)) (lengthOf (dueLong (telegramReading sender sent)))
     (minuteBytes (telegramReading sender sent) head) out
-answerTo (listed b) = text (listing base b)
+answerBy base (listed b) = text (listing base b)
+answerBy base (withBase other q) = answerBy other q
+
+unfoldable pub answerTo : Question → Answer
+answerTo q = answerBy usualBase q
 
 pub record Case : Type 0 where
   pub asked : Question

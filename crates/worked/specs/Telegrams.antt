@@ -30,7 +30,7 @@ spring = set 3 25 7
 abbrev autumn : SetDay
 autumn = set 10 25 7
 
-abbrev plant : LeapSecond → Sender
+abbrev pub plant : LeapSecond → Sender
 plant leap = sender spring autumn leap
 
 -- from 25 February on, the Sundays of both

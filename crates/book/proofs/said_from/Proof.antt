@@ -4,7 +4,6 @@ use mathlib.Core.Path.{ap, _∙_}
 use native.Mathlib.Nat.{add-sub-cancel-left}
 use lib.ListN.{take, drop}
 use denote.Ref.{now}
-use Rattle.reading.specs.Years.{base}
 use Rattle.book.specs.Body.{readBody}
 use borrow.Author.Needs.{needs}
 use Rattle.book.proofs.said_from.Statement.{statement}
@@ -29,7 +28,7 @@ returns : tie.Need-returns
 returns c =
     let a = c .before .before .before .args in
     c .read-body .ensures
-    ∙ ap (λ (k : ℕ). readBody base (a .kind) (take k (drop (a .start) (now (a .book))))) (add-sub-cancel-left (a .start) (a .n))
+    ∙ ap (λ (k : ℕ). readBody (a .base) (a .kind) (take k (drop (a .start) (now (a .book))))) (add-sub-cancel-left (a .start) (a .n))
 
 pub said-from-spec : {M : Type 1} → statement M
 said-from-spec =

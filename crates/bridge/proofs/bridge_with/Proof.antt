@@ -113,7 +113,7 @@ returns-2 c =
     let t = k .before .before in
     let a = t .before .before .before .before .before .args in
     wrote _ (a .s .now) (a .way) (a .out .now) (t .before .before .if1 .left) (t .whichever .result) (t .whichever .ensures ∙ ap whichever (t .before .read .ensures))
-    (k .answer .given .0 .0) (p .carried-by .result) (k .answer .given .0 .1 .0) (w .write .result) (w .write .last .1 .0) (k .answer .given .1) (p .carried-by .ensures)
+    (k .answer .given .0 .0) (p .carried-by .result) (k .answer .given .0 .1 .0) (w .write .result) (w .write .last .1 .1 .0) (k .answer .given .1) (p .carried-by .ensures)
     (w .write .ensures .0) (w .write .ensures .1)
 
 same-length-3 : tie.Need-same-length-3

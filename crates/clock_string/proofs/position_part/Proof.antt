@@ -5,7 +5,6 @@ use native.Mathlib.Omega.{arith}
 use lib.ListN.{length}
 use borrow.Author.Needs.{needs}
 use denote.Ref.{now}
-use Rattle.reading.specs.Years.{base}
 use Rattle.erlangen.specs.Layout.{size}
 use Rattle.erlangen.proofs.Promises.{accepted-length}
 use Rattle.clock_string.proofs.PositionLaws.{no-part-of-32, no-part-of-refused, part-of-accepted}
@@ -25,7 +24,7 @@ part-result-end c = omega arith
 returns : tie.Need-returns
 returns c =
     let a = c .before in
-    let p = no-part-of-32 base (now (a .before .before .args .s)) (a .if1 .taken) in
+    let p = no-part-of-32 _ (now (a .before .before .args .s)) (a .if1 .taken) in
     (p .0, rw (p .1))
 
 for-clock-string-requires : tie.Need-for-clock-string-requires
@@ -45,7 +44,7 @@ part-result-end-2 c =
     let a = c .before .before in
     let s = now (a .before .before .before .args .s) in
     let t = c .enum-told .given in
-    let l : length s ≡ size = accepted-length base s (t .0 .0) (t .0 .1 .0) (sym (a .for-clock-string .ensures) ∙ t .1) in
+    let l : length s ≡ size = accepted-length _ s (t .0 .0) (t .0 .1 .0) (sym (a .for-clock-string .ensures) ∙ t .1) in
     omega arith
 
 enum-told-2 : tie.Need-enum-told-2
@@ -64,14 +63,14 @@ returns-2 : tie.Need-returns-2
 returns-2 c =
     let a = c .before .before .before in
     let t = c .before .enum-told .given in
-    let p = part-of-accepted base (now (a .before .before .before .args .s)) (t .0 .0) (t .0 .1 .0) (sym (a .for-clock-string .ensures) ∙ t .1) in
+    let p = part-of-accepted _ (now (a .before .before .before .args .s)) (t .0 .0) (t .0 .1 .0) (sym (a .for-clock-string .ensures) ∙ t .1) in
     (p .0, rw (p .1))
 
 returns-3 : tie.Need-returns-3
 returns-3 c =
     let a = c .before .before .before in
     let t = c .before .enum-told2 .given in
-    let p = no-part-of-refused base (now (a .before .before .before .args .s)) (t .0 .0) (sym (a .for-clock-string .ensures) ∙ t .1) in
+    let p = no-part-of-refused _ (now (a .before .before .before .args .s)) (t .0 .0) (sym (a .for-clock-string .ensures) ∙ t .1) in
     (p .0, rw (p .1))
 
 pub position-part-spec : {M : Type 1} → statement M

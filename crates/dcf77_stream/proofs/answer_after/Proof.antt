@@ -7,7 +7,6 @@ use Prim.Native.Nat.{ℕ, _+_, _-_, _≤_, _<_}
 use native.Mathlib.Numerals.{add-one}
 use lib.ListN.{length, take, getD}
 use lib.Seq.{take-suc, take-all}
-use Rattle.reading.specs.Years.{base}
 use Rattle.streams.specs.Stream.{push, windowOf}
 use Rattle.streams.proofs.Window.{window-length}
 use Rattle.dcf77_stream.specs.declared.PulseReader.{PulseReader}
@@ -19,28 +18,30 @@ use Rattle.dcf77_stream.proofs.answer_after.Statement.{statement}
 use Rattle.dcf77_stream.proofs.answer_after.Tie as tie
 
 -- one more of them
-turn : (ps : List ℕ) (i : ℕ) (reader : PulseReader) (s : Stepped) → i < length ps → keptBy reader ≡ windowOf kept filler (take i ps)
-    → s ≡ record { reader = taken reader (getD ps i 0); said = sayOf base (push (keptBy reader) (getD ps i 0)) }
-    → (keptBy (s .reader) ≡ windowOf kept filler (take (i + 1) ps)) × (s .said ≡ owed base (take (i + 1) ps))
-turn ps i reader s h w e =
+turn : (base : ℕ) (ps : List ℕ) (i : ℕ) (reader : PulseReader) (s : Stepped) → reader .base ≡ base → i < length ps → keptBy reader ≡ windowOf kept filler (take i ps)
+    → s ≡ record { reader = taken reader (getD ps i 0); said = sayOf (reader .base) (push (keptBy reader) (getD ps i 0)) }
+    → (s .reader .base ≡ base) × (keptBy (s .reader) ≡ windowOf kept filler (take (i + 1) ps)) × (s .said ≡ owed base (take (i + 1) ps))
+unfolding taken
+turn base ps i reader s b h w e =
     let l : length (keptBy reader) ≡ kept = ap length w ∙ window-length kept filler (take i ps) in
     let t : push (keptBy reader) (getD ps i 0) ≡ windowOf kept filler (take (i + 1) ps) = rw (w, windowed, ← take-suc ps i 0 h, add-one) in (
+      ap (λ (s : Stepped). s .reader .base) e ∙ b,
       ap (λ (s : Stepped). keptBy (s .reader)) e ∙ kept-taken reader (getD ps i 0) l ∙ t,
-      ap (λ (s : Stepped). s .said) e ∙ ap (sayOf base) t ∙ due base (take (i + 1) ps),
+      ap (λ (s : Stepped). s .said) e ∙ ap (λ (n : ℕ). sayOf n (push (keptBy reader) (getD ps i 0))) b ∙ ap (sayOf base) t ∙ due base (take (i + 1) ps),
     )
 
 abbrev Inv-loop : tie.InvT-loop
-Inv-loop symbols reader₀ said₀ i₀ reader said i = (i ≤ length symbols) × (keptBy reader ≡ windowOf kept filler (take i symbols)) × (said ≡ owed base (take i symbols))
+Inv-loop base symbols reader₀ said₀ i₀ reader said i = (i ≤ length symbols) × (reader .base ≡ base) × (keptBy reader ≡ windowOf kept filler (take i symbols)) × (said ≡ owed base (take i symbols))
 
 abbrev μ-loop : tie.MeasureT-loop
-μ-loop symbols reader₀ said₀ i₀ reader said i = length symbols - i
+μ-loop base symbols reader₀ said₀ i₀ reader said i = length symbols - i
 
 fresh-requires : tie.Need-fresh-requires Inv-loop μ-loop
 fresh-requires c κs = search needs
 
 loop-holds : tie.Need-loop-holds Inv-loop μ-loop
 unfolding windowOf owed outlined
-loop-holds c = (omega arith, ap keptBy (c .fresh .ensures) ∙ kept-fresh, refl)
+loop-holds c = (omega arith, ap (λ (r : PulseReader). r .base) (c .fresh .ensures), ap keptBy (c .fresh .ensures) ∙ kept-fresh _, refl)
 
 shared-slice-read-step : tie.Need-shared-slice-read-step Inv-loop μ-loop
 shared-slice-read-step c = search needs
@@ -57,12 +58,12 @@ loop-less c = omega arith
 loop-again : tie.Need-loop-again Inv-loop μ-loop
 loop-again c =
     let l = c .before .before .before .before .loop in
-    let ps = c .before .before .before .before .before .before .before .args .symbols .now in
-    let t = turn ps (l .i) (l .reader) (c .before .step .result) (omega arith) (l .inv .1) (c .before .step .ensures) in
-    (omega arith, t .0, t .1)
+    let a = c .before .before .before .before .before .before .before .args in
+    let t = turn (a .base) (a .symbols .now) (l .i) (l .reader) (c .before .step .result) (l .inv .1) (omega arith) (l .inv .2) (c .before .step .ensures) in
+    (omega arith, t .0, t .1, t .2)
 
 returns : tie.Need-returns Inv-loop μ-loop
-returns c = let ps = c .before .before .before .before .args .symbols .now in c .before .loop .inv .2 ∙ ap (owed base) (take-all (c .before .loop .i) ps (c .loop-test .left))
+returns c = let ps = c .before .before .before .before .args .symbols .now in c .before .loop .inv .3 ∙ ap (owed _) (take-all (c .before .loop .i) ps (c .loop-test .left))
 
 pub answer-after-spec : {M : Type 1} → statement M
 answer-after-spec =

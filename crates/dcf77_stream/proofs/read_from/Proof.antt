@@ -1,7 +1,6 @@
 -- `dcf77_stream::read_from` meets its contract. Assumes nothing.
 use borrow.Author.Needs.{needs}
 use mathlib.Core.Path.{ap, _∙_}
-use Rattle.reading.specs.Years.{base}
 use Rattle.dcf77.specs.Reader.{readDcf77}
 use Rattle.dcf77_stream.specs.Said.{saidOf}
 use Rattle.dcf77_stream.proofs.SymbolLaws.{tail-is}
@@ -24,7 +23,7 @@ said-of-requires : tie.Need-said-of-requires
 said-of-requires c κs = search needs
 
 returns : tie.Need-returns
-returns c = let a = c .before .before .before .before .args in c .said-of .ensures ∙ ap saidOf (c .before .read .ensures ∙ ap (readDcf77 base) (tail-is (a .window .now) (a .from)))
+returns c = let a = c .before .before .before .before .args in c .said-of .ensures ∙ ap saidOf (c .before .read .ensures ∙ ap (readDcf77 (a .base)) (tail-is (a .window .now) (a .from)))
 
 pub read-from-spec : {M : Type 1} → statement M
 read-from-spec =

@@ -5,7 +5,6 @@ use mathlib.Core.Path.{_≡_, ap, _∙_}
 use mathlib.Core.List.{List}
 use Prim.Native.Nat.{ℕ, _+_, _<_}
 use lib.ListN.{length}
-use Rattle.reading.specs.Years.{base}
 use Rattle.streams.specs.Stream.{placeOf, unrolled}
 use Rattle.streams.proofs.Ring.{unrolled-place}
 use Rattle.dcf77_stream.specs.declared.Said.{Said}
@@ -15,15 +14,15 @@ use Rattle.dcf77_stream.proofs.say_closed.Statement.{statement}
 use Rattle.dcf77_stream.proofs.say_closed.Tie as tie
 
 -- the oldest stands at the place after the newest
-told : (w : List ℕ) (newest oldest : ℕ) (said : Said) → length w ≡ kept → newest < kept → oldest ≡ placeOf kept (newest + 1)
+told : (base : ℕ) (w : List ℕ) (newest oldest : ℕ) (said : Said) → length w ≡ kept → newest < kept → oldest ≡ placeOf kept (newest + 1)
     → said ≡ sayOf base (unrolled w oldest) → said ≡ sayOf base (unrolled w (newest + 1))
-told w newest oldest said l h e s = s ∙ ap (sayOf base) (rw e (unrolled-place kept w (newest + 1) l (omega arith)))
+told base w newest oldest said l h e s = s ∙ ap (sayOf base) (rw e (unrolled-place kept w (newest + 1) l (omega arith)))
 
 shared-slice-read-if1 : tie.Need-shared-slice-read-if1
 shared-slice-read-if1 c = search needs
 
 returns : tie.Need-returns
-returns c = let a = c .before .before .before .args in newest-no-gap base (a .ring .now) (a .newest) (omega arith) (c .if1 .taken)
+returns c = let a = c .before .before .before .args in newest-no-gap (a .base) (a .ring .now) (a .newest) (omega arith) (c .if1 .taken)
 
 add-place-of : tie.Need-add-place-of
 add-place-of c = search needs
@@ -38,7 +37,7 @@ returns-2 : tie.Need-returns-2
 returns-2 c =
     let a = c .before .before .before .before .before .args in
     let p = c .before .place-of in
-    told (a .ring .now) (a .newest) (p .result) (c .say-unrolled .result) (omega arith) (omega arith) (p .ensures .0) (c .say-unrolled .ensures)
+    told (a .base) (a .ring .now) (a .newest) (p .result) (c .say-unrolled .result) (omega arith) (omega arith) (p .ensures .0) (c .say-unrolled .ensures)
 
 pub say-closed-spec : {M : Type 1} → statement M
 say-closed-spec =

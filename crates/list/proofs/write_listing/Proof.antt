@@ -6,7 +6,6 @@ use Prim.Native.Nat.{_≤_}
 use denote.Ref.{now}
 use lib.ListN.{length}
 use lib.Seq.{length-take-le}
-use Rattle.reading.specs.Years.{base}
 use Rattle.listing.proofs.RoomLaws.{within}
 use Rattle.list.proofs.write_listing.Statement.{statement}
 use Rattle.list.proofs.write_listing.Tie as tie
@@ -21,15 +20,15 @@ slice-reshare-prefix-write-out : tie.Need-slice-reshare-prefix-write-out
 slice-reshare-prefix-write-out c =
     let a = c .before .before .before .before .before .before .before .before .before .args in
     let p = c .before .before .before .before .before .list in
-    let w = within base (now (a .book)) (now (a .page)) _ _ (p .ensures .0) (c .before .n .given .1) in
-    omega (arith, p .kept .1 .0)
+    let w = within (a .base) (now (a .book)) (now (a .page)) _ _ (p .ensures .0) (c .before .n .given .1) in
+    omega (arith, p .kept .1 .1 .0)
 
 slice-aggregate-write-out : tie.Need-slice-aggregate-write-out
 slice-aggregate-write-out c =
     let a = c .before .before .before .before .before .before .before .before .before .before .args in
     let p = c .before .before .before .before .before .before .list in
-    let w = within base (now (a .book)) (now (a .page)) _ _ (p .ensures .0) (c .before .before .n .given .1) in
-    sym (length-take-le (c .before .before .n .given .0 .0) (p .last .1 .0) (omega (arith, p .kept .1 .0)))
+    let w = within (a .base) (now (a .book)) (now (a .page)) _ _ (p .ensures .0) (c .before .before .n .given .1) in
+    sym (length-take-le (c .before .before .n .given .0 .0) (p .last .1 .1 .0) (omega (arith, p .kept .1 .1 .0)))
 
 write-out-requires : tie.Need-write-out-requires
 write-out-requires c κs = search needs

@@ -4,7 +4,6 @@ use denote.Ref.{now}
 use mathlib.Core.Path.{refl, ap}
 use lib.ListN.{length}
 use Rattle.reading.specs.declared.Written.the-variants.{No}
-use Rattle.reading.specs.Years.{base}
 use Rattle.dcf77.proofs.WriteLaws.{finished}
 use Rattle.dcf77.proofs.LengthLaws.{too-few-bytes}
 use Rattle.dcf77.proofs.Dcf77.write.Statement.{statement}
@@ -16,7 +15,7 @@ refusal-of-requires c κs = search needs
 returns : tie.Need-returns
 returns c =
     let a = c .before .before .before .args in
-    let e = too-few-bytes base (a .r) (a .head) (length (now (a .out))) (c .before .if1 .taken) in
+    let e = too-few-bytes (a .base) (a .r) (a .head) (length (now (a .out))) (c .before .if1 .taken) in
     rw e (ap No (c .refusal-of .ensures), refl)
 
 due-long-requires : tie.Need-due-long-requires
@@ -48,7 +47,7 @@ returns-2 c =
     let stored = c .before .before .before .before in
     let room = stored .before .before .before in
     let a = room .before .before .before .before .before .args in
-    finished base (a .r) (a .head) (now (a .out)) _ _ _ _ _ _ _
+    finished (a .base) (a .r) (a .head) (now (a .out)) _ _ _ _ _ _ _
     (room .before .before .due-long .ensures) (room .before .carry-fault .ensures) (room .room-fault .ensures)
     (stored .before .before .is-good .ensures) (stored .store .ensures) (c .before .length-of .ensures) (c .written .ensures)
 

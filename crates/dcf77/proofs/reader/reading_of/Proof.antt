@@ -6,7 +6,7 @@ use Prim.Native.Nat.{ℕ}
 use lib.Dec.{lit<, eqb}
 use lib.ListN.{getD}
 use Rattle.reading.specs.declared.LocalMinusUtc.{LocalMinusUtc}
-use Rattle.reading.specs.Years.{base, yearOf}
+use Rattle.reading.specs.Years.{yearOf}
 use Rattle.dcf77_table.specs.Table.{change, zone, leap, minutes, tensOfMinutes, hours, tensOfHours, days, tensOfDays, months, tensOfMonths, years, tensOfYears}
 use Rattle.dcf77_table.proofs.ValueLaws.{digit-small}
 use Rattle.dcf77.specs.Zones.{offsetIn, zoneOf}
@@ -15,7 +15,7 @@ use Rattle.dcf77.proofs.reader.reading_of.Statement.{statement}
 use Rattle.dcf77.proofs.reader.reading_of.Tie as tie
 
 -- the fields as the code comes to them
-named : (v : List ℕ) (z digits y m d h n : ℕ) (o : LocalMinusUtc) → z ≡ zoneOf true → digits ≡ twoDigits v tensOfYears years → y ≡ yearOf base digits
+named : (base : ℕ) (v : List ℕ) (z digits y m d h n : ℕ) (o : LocalMinusUtc) → z ≡ zoneOf true → digits ≡ twoDigits v tensOfYears years → y ≡ yearOf base digits
     → m ≡ twoDigits v tensOfMonths months → d ≡ twoDigits v tensOfDays days → h ≡ twoDigits v tensOfHours hours → n ≡ twoDigits v tensOfMinutes minutes
     → o ≡ record { 0 = offsetIn (eqb (getD v zone 0) z) }
     → record {
@@ -33,7 +33,7 @@ named : (v : List ℕ) (z digits y m d h n : ℕ) (o : LocalMinusUtc) → z ≡ 
     }
     ≡ readingOf base v
 unfolding readingOf
-named v z digits y m d h n o ez ed ey em ed' eh en eo = rw (eo, ey, ed, em, ed', eh, en, ez)
+named base v z digits y m d h n o ez ed ey em ed' eh en eo = rw (eo, ey, ed, em, ed', eh, en, ez)
 
 array-read-summer : tie.Need-array-read-summer
 array-read-summer c = lit< tt
@@ -92,16 +92,16 @@ two-digits-requires-5 c κs = (digit-small (c .before .before .before .before .b
 offset-in-requires : tie.Need-offset-in-requires
 offset-in-requires c κs = tt
 
-array-read-t43 : tie.Need-array-read-t43
-array-read-t43 c = lit< tt
+array-read-t44 : tie.Need-array-read-t44
+array-read-t44 c = lit< tt
 
-array-read-t47 : tie.Need-array-read-t47
-array-read-t47 c = lit< tt
+array-read-t48 : tie.Need-array-read-t48
+array-read-t48 c = lit< tt
 
 returns : tie.Need-returns
 returns c =
     let d = c .before .before .before .before in
-    named _ _ _ _ _ _ _ _ _ (d .before .before .before .zone-of .ensures) (d .before .before .two-digits .ensures) (d .before .year-of .ensures) (d .two-digits2 .ensures)
+    named _ _ _ _ _ _ _ _ _ _ (d .before .before .before .zone-of .ensures) (d .before .before .two-digits .ensures) (d .before .year-of .ensures) (d .two-digits2 .ensures)
     (c .before .before .before .two-digits3 .ensures) (c .before .before .two-digits4 .ensures) (c .before .two-digits5 .ensures) (c .offset-in .ensures)
 
 pub reading-of-spec : {M : Type 1} → statement M
@@ -127,6 +127,6 @@ reading-of-spec =
     array-read-two-digits-10
     two-digits-requires-5
     offset-in-requires
-    array-read-t43
-    array-read-t47
+    array-read-t44
+    array-read-t48
     returns)

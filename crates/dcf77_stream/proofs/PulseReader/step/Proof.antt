@@ -4,7 +4,6 @@ use borrow.Author.Needs.{needs}
 use mathlib.Core.Path.{_≡_, ap, _∙_}
 use Prim.Native.Nat.{ℕ, _+_, _<_}
 use lib.ListN.{length, set}
-use Rattle.reading.specs.Years.{base}
 use Rattle.streams.specs.Stream.{push, placeOf, unrolled}
 use Rattle.streams.proofs.Ring.{pushed}
 use Rattle.dcf77_stream.specs.declared.PulseReader.{PulseReader}
@@ -16,11 +15,11 @@ use Rattle.dcf77_stream.proofs.PulseReader.step.Tie as tie
 
 -- the symbol stored at the oldest one's place, and what is said of the ring then
 stepped : (reader : PulseReader) (symbol place : ℕ) (said : Said) → length (reader .ring) ≡ kept → place < kept → place ≡ placeOf kept (reader .next)
-    → said ≡ sayOf base (unrolled (set (reader .ring) place symbol) (place + 1))
-    → _≡_ {A = Stepped} (record { reader = record { ring = set (reader .ring) place symbol; next = place + 1 }; said = said }) (record { reader = taken reader symbol; said = sayOf base (push (keptBy reader) symbol) })
+    → said ≡ sayOf (reader .base) (unrolled (set (reader .ring) place symbol) (place + 1))
+    → _≡_ {A = Stepped} (record { reader = record { base = reader .base; ring = set (reader .ring) place symbol; next = place + 1 }; said = said }) (record { reader = taken reader symbol; said = sayOf (reader .base) (push (keptBy reader) symbol) })
 unfolding taken keptBy
 stepped reader symbol place said l h e s =
-    let w = s ∙ ap (sayOf base) (pushed (reader .ring) place (omega arith) symbol) in
+    let w = s ∙ ap (sayOf (reader .base)) (pushed (reader .ring) place (omega arith) symbol) in
     rw (w, e)
 
 place-of-requires : tie.Need-place-of-requires

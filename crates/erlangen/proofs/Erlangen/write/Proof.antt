@@ -11,7 +11,6 @@ use Rattle.reading.specs.declared.Refusal.{Refusal}
 use Rattle.reading.specs.declared.Verdict.{Verdict}
 use Rattle.reading.specs.declared.Verdict.the-variants.{Good, Bad}
 use Rattle.reading.specs.declared.Written.the-variants.{Length, No}
-use Rattle.reading.specs.Years.{base}
 use Rattle.reading.specs.Faults.{number}
 use Rattle.reading.specs.Writing.{writtenOf, filled}
 use Rattle.erlangen.specs.Layout.{size}
@@ -22,7 +21,7 @@ use borrow.Author.Needs.{needs}
 use Rattle.erlangen.proofs.Erlangen.write.Statement.{statement}
 use Rattle.erlangen.proofs.Erlangen.write.Tie as tie
 
-module _ (r : Reading) (coasting : Bool) (position l : List ℕ) where
+module _ (base : ℕ) (r : Reading) (coasting : Bool) (position l : List ℕ) where
   abbrev v : Verdict
   v = writeFault base r position (length l)
 
@@ -53,7 +52,7 @@ lay-requires : tie.Need-lay-requires
 lay-requires c κs =
     let w = c .before .before .before in
     let s = w .before .before .before .args in
-    let p = carried-is base (s .r) (now (s .position)) (length (now (s .out))) (sym (w .write-fault .ensures) ∙ c .before .enum-told .given .1) in
+    let p = carried-is (s .base) (s .r) (now (s .position)) (length (now (s .out))) (sym (w .write-fault .ensures) ∙ c .before .enum-told .given .1) in
     (p .size-is, p .roomy)
 
 returns : tie.Need-returns
@@ -61,7 +60,7 @@ returns c =
     let fault = c .before .before .fault in
     let w = c .before .before .before .before in
     let s = w .before .before .before .args in
-    refused (s .r) (s .coasting) (now (s .position)) (now (s .out)) (fault .given .0 .0) (sym (w .write-fault .ensures) ∙ fault .given .1) (c .refusal-of .ensures)
+    refused (s .base) (s .r) (s .coasting) (now (s .position)) (now (s .out)) (fault .given .0 .0) (sym (w .write-fault .ensures) ∙ fault .given .1) (c .refusal-of .ensures)
 
 same-length : tie.Need-same-length
 same-length c = search needs
@@ -71,7 +70,7 @@ returns-2 c =
     let told = c .before .before .before .before in
     let w = told .before .before in
     let s = w .before .before .before .args in
-    accepted (s .r) (s .coasting) (now (s .position)) (now (s .out)) (sym (w .write-fault .ensures) ∙ told .enum-told .given .1) (c .before .before .lay .ensures)
+    accepted (s .base) (s .r) (s .coasting) (now (s .position)) (now (s .out)) (sym (w .write-fault .ensures) ∙ told .enum-told .given .1) (c .before .before .lay .ensures)
 
 pub write-spec : {M : Type 1} → statement M
 write-spec =

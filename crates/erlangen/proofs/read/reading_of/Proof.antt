@@ -1,7 +1,7 @@
 -- `erlangen::read::reading_of` meets its contract. Assumes nothing.
 use mathlib.Core.Bool.{Bool, cond}
 use mathlib.Core.Path.{ap, _∙_}
-use Rattle.reading.specs.Years.{base, yearOf}
+use Rattle.reading.specs.Years.{yearOf}
 use Rattle.erlangen.specs.Offset.{offsetOf}
 use Rattle.erlangen.specs.Meaning.{readingOf}
 use borrow.Author.Needs.{needs}
@@ -63,7 +63,7 @@ returns c =
     let digits = flags .before .before .before .before in
     let offset = digits .before .before .before .before .before .before .before in
     λ i. record {
-      year = (digits .before .before .before .before .before .year-of .ensures ∙ ap (yearOf base) (digits .before .before .before .before .before .before .two-digits3 .ensures .0)) i;
+      year = (digits .before .before .before .before .before .year-of .ensures ∙ ap (yearOf _) (digits .before .before .before .before .before .before .two-digits3 .ensures .0)) i;
       month = digits .before .before .before .before .two-digits4 .ensures .0 i;
       day = digits .before .before .before .two-digits5 .ensures .0 i;
       hour = digits .before .before .two-digits6 .ensures .0 i;

@@ -9,7 +9,7 @@ use Rattle.calendar.specs.Calendar.{leapYear, monthDay}
 use Rattle.reading.specs.declared.AddedToLocal.{AddedToLocal}
 use Rattle.reading.specs.declared.LocalMinusUtc.{LocalMinusUtc}
 use Rattle.reading.specs.Offset.{localOf}
-use Rattle.reading.specs.Years.{base, yearOf}
+use Rattle.reading.specs.Years.{yearOf}
 use Rattle.irig_table.specs.Table.{minus}
 use Rattle.irig.specs.Offset.{amountOf}
 use Rattle.irig.specs.Meaning.{isSet, dayIn, halvesIn, yearIn, monthDayIn, secondIn, minuteIn, hourIn, digitsIn, addedIn, readingOf}
@@ -17,7 +17,7 @@ use Rattle.irig.proofs.fields.reading_of.Statement.{statement}
 use Rattle.irig.proofs.fields.reading_of.Tie as tie
 
 -- year, date and offset, from what the calls ensure
-module _ (v : List ℕ) where
+module _ (base : ℕ) (v : List ℕ) where
   year-is : (digits year : ℕ) → digits ≡ digitsIn v → year ≡ yearOf base digits → year ≡ yearIn base v
   unfolding yearIn
   year-is digits year p q = q ∙ ap (yearOf base) p
@@ -86,9 +86,10 @@ returns c =
     let d = c .before .before .before .before .before .before .before in
     let e = d .before .before .before .before in
     let f = e .before .before .before .before in
+    let base = f .before .args .base in
     let v = f .before .args .v in
-    let year = year-is v _ _ (f .two .ensures .0) (e .before .before .before .year-of .ensures) in
-    let date = date-is v _ _ _ _ year (e .before .before .is-leap .ensures) (e .before .day-in .ensures) (e .month-day .ensures) in
+    let year = year-is base v _ _ (f .two .ensures .0) (e .before .before .before .year-of .ensures) in
+    let date = date-is base v _ _ _ _ year (e .before .before .is-leap .ensures) (e .before .day-in .ensures) (e .month-day .ensures) in
     λ i. record {
       year = year i;
       month = date i .month;
@@ -96,7 +97,7 @@ returns c =
       hour = c .before .before .before .before .before .before .two2 .ensures .0 i;
       minute = c .before .before .before .before .before .two3 .ensures .0 i;
       second = c .before .before .before .before .two4 .ensures .0 i;
-      offset = offset-is v _ _ _ _ (d .before .before .before .is-set .ensures) (d .before .before .halves-in .ensures) (d .before .amount-of .ensures) (d .local .ensures) i;
+      offset = offset-is base v _ _ _ _ (d .before .before .before .is-set .ensures) (d .before .before .halves-in .ensures) (d .before .amount-of .ensures) (d .local .ensures) i;
       summer = c .before .before .before .is-set2 .ensures i;
       leap = c .before .before .is-set3 .ensures i;
       change = c .before .is-set4 .ensures i;

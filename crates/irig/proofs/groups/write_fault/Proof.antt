@@ -8,7 +8,6 @@ use Rattle.reading.specs.declared.Reading.{Reading}
 use Rattle.reading.specs.declared.Fault.{Fault}
 use Rattle.reading.specs.declared.Fault.the-variants.{Length, NotCarried}
 use Rattle.reading.specs.declared.Verdict.the-variants.{Good, Bad}
-use Rattle.reading.specs.Years.{base}
 use Rattle.reading.specs.Checks.{checkedOf}
 use Rattle.irig.specs.Offset.{oddQuarter}
 use Rattle.irig.specs.Faults.{frameLength}
@@ -18,7 +17,7 @@ use Rattle.irig.proofs.WriteLaws.{writable, odd-fault}
 use Rattle.irig.proofs.groups.write_fault.Statement.{statement}
 use Rattle.irig.proofs.groups.write_fault.Tie as tie
 
-module _ (r : Reading) (room : ℕ) where
+module _ (base : ℕ) (r : Reading) (room : ℕ) where
   short : room < frameLength → Bad Length ≡ writeFault base r room
   unfolding writeFault
   short h = rw (lt-ltb room frameLength h)
@@ -34,7 +33,7 @@ module _ (r : Reading) (room : ℕ) where
   even h e f = sym (writable base r room h (parts-carried base r e f))
 
 returns : tie.Need-returns
-returns c = short (c .before .args .r) (c .before .args .room) (c .if1 .taken)
+returns c = short (c .before .args .base) (c .before .args .r) (c .before .args .room) (c .if1 .taken)
 
 checked-requires : tie.Need-checked-requires
 checked-requires c κs = search needs
@@ -47,7 +46,7 @@ returns-2 c =
     let fault = c .before .fault in
     let k = c .before .before .before in
     let a = k .before .before .args in
-    faulty (a .r) (a .room) (fault .given .0 .0) (k .before .if1 .left) (sym (k .checked .ensures) ∙ fault .given .1)
+    faulty (a .base) (a .r) (a .room) (fault .given .0 .0) (k .before .if1 .left) (sym (k .checked .ensures) ∙ fault .given .1)
 
 enum-told : tie.Need-enum-told
 enum-told c = search needs
@@ -60,14 +59,14 @@ returns-3 c =
     let n = c .before in
     let k = n .before .before .before .before in
     let a = k .before .before .args in
-    odd (a .r) (a .room) (k .before .if1 .left) (sym (k .checked .ensures) ∙ n .before .before .enum-told .given .1) (sym (n .odd-quarter .ensures) ∙ c .if2 .taken)
+    odd (a .base) (a .r) (a .room) (k .before .if1 .left) (sym (k .checked .ensures) ∙ n .before .before .enum-told .given .1) (sym (n .odd-quarter .ensures) ∙ c .if2 .taken)
 
 returns-4 : tie.Need-returns-4
 returns-4 c =
     let n = c .before in
     let k = n .before .before .before .before in
     let a = k .before .before .args in
-    even (a .r) (a .room) (k .before .if1 .left) (sym (k .checked .ensures) ∙ n .before .before .enum-told .given .1) (sym (n .odd-quarter .ensures) ∙ c .if2 .left)
+    even (a .base) (a .r) (a .room) (k .before .if1 .left) (sym (k .checked .ensures) ∙ n .before .before .enum-told .given .1) (sym (n .odd-quarter .ensures) ∙ c .if2 .left)
 
 pub write-fault-spec : {M : Type 1} → statement M
 write-fault-spec =

@@ -4,7 +4,6 @@ use borrow.Author.Needs.{needs}
 use mathlib.Core.Path.{_≡_, ap, _∙_}
 use Prim.Native.Nat.{ℕ, _+_, _<_}
 use lib.ListN.{length, set}
-use Rattle.reading.specs.Years.{base}
 use Rattle.streams.specs.Stream.{push, placeOf, unrolled}
 use Rattle.streams.proofs.Ring.{pushed}
 use Rattle.irig_stream.specs.declared.PulseReader.{PulseReader}
@@ -16,11 +15,11 @@ use Rattle.irig_stream.proofs.PulseReader.step.Tie as tie
 
 -- the pulse stored at the oldest one's place, and what is said of the ring then
 stepped : (reader : PulseReader) (pulse place : ℕ) (said : Said) → length (reader .ring) ≡ kept → place < kept → place ≡ placeOf kept (reader .next)
-    → said ≡ sayOf base (unrolled (set (reader .ring) place pulse) (place + 1))
-    → _≡_ {A = Stepped} (record { reader = record { ring = set (reader .ring) place pulse; next = place + 1 }; said = said }) (record { reader = taken reader pulse; said = sayOf base (push (keptBy reader) pulse) })
+    → said ≡ sayOf (reader .base) (unrolled (set (reader .ring) place pulse) (place + 1))
+    → _≡_ {A = Stepped} (record { reader = record { base = reader .base; ring = set (reader .ring) place pulse; next = place + 1 }; said = said }) (record { reader = taken reader pulse; said = sayOf (reader .base) (push (keptBy reader) pulse) })
 unfolding taken keptBy
 stepped reader pulse place said l h e s =
-    let w = s ∙ ap (sayOf base) (pushed (reader .ring) place (omega arith) pulse) in
+    let w = s ∙ ap (sayOf (reader .base)) (pushed (reader .ring) place (omega arith) pulse) in
     rw (w, e)
 
 place-of-requires : tie.Need-place-of-requires

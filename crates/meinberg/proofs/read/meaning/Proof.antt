@@ -2,7 +2,7 @@
 use borrow.Author.Needs.{needs}
 use mathlib.Core.Path.{ap, _∙_}
 use lib.Dec.{eqb}
-use Rattle.reading.specs.Years.{base, yearOf}
+use Rattle.reading.specs.Years.{yearOf}
 use Rattle.meinberg.specs.Layout.{bang, letterA}
 use Rattle.meinberg.specs.Zones.{offsetOf, summerOf}
 use Rattle.meinberg.specs.Meaning.{qualityOf, meaning}
@@ -56,7 +56,7 @@ returns c =
     let zone = bytes .before .before .byte-at .ensures in
     let announced = bytes .before .byte-at2 .ensures in
     λ i. record {
-      year = (digits .before .before .before .before .before .year-of .ensures ∙ ap (yearOf base) (digits .before .before .before .before .before .before .two-digits .ensures .0)) i;
+      year = (digits .before .before .before .before .before .year-of .ensures ∙ ap (yearOf _) (digits .before .before .before .before .before .before .two-digits .ensures .0)) i;
       month = digits .before .before .before .before .two-digits2 .ensures .0 i;
       day = digits .before .before .before .two-digits3 .ensures .0 i;
       hour = digits .before .before .two-digits4 .ensures .0 i;

@@ -13,7 +13,6 @@ use Rattle.reading.specs.declared.Fault.{Fault}
 use Rattle.reading.specs.declared.Verdict.the-variants.{Good, Bad}
 use Rattle.reading.specs.declared.Written.the-variants.{Length, No}
 use Rattle.reading.specs.Faults.{number}
-use Rattle.reading.specs.Years.{base}
 use Rattle.reading.specs.Writing.{writtenOf, filled}
 use Rattle.wire.specs.Put.{stored}
 use Rattle.wire.proofs.StoreLaws.{stored-first}
@@ -23,7 +22,7 @@ use Rattle.meinberg.proofs.WriteLaws.{writable, bytes-length}
 use Rattle.meinberg.proofs.write.into.Statement.{statement}
 use Rattle.meinberg.proofs.write.into.Tie as tie
 
-module _ (r : Reading) (coasting : Bool) (buffer : List ℕ) where
+module _ (base : ℕ) (r : Reading) (coasting : Bool) (buffer : List ℕ) where
   refused : (x : Fault) (n : Refusal) → writeFault base r (length buffer) ≡ Bad x → n ≡ number x
       → (No n ≡ writtenOf (writeFault base r (length buffer)) textLength)
       × (buffer ≡ filled (writeFault base r (length buffer)) (bytesOf r coasting) buffer)
@@ -50,7 +49,7 @@ returns c =
     let fault = c .before .before .fault in
     let w = c .before .before .before .before in
     let a = w .before .before .args in
-    refused (a .r) (a .coasting) (now (a .out)) (fault .given .0 .0) _ (sym (w .write-fault .ensures) ∙ fault .given .1) (c .refusal-of .ensures)
+    refused (a .base) (a .r) (a .coasting) (now (a .out)) (fault .given .0 .0) _ (sym (w .write-fault .ensures) ∙ fault .given .1) (c .refusal-of .ensures)
 
 enum-told : tie.Need-enum-told
 enum-told c = search needs
@@ -74,7 +73,7 @@ returns-2 c =
     let w = bytes .before .before .before in
     let a = w .before .before .args in
     rw (put .put-at .ensures .1, bytes .bytes-of .ensures)
-    (wrote (a .r) (a .coasting) (now (a .out)) (sym (w .write-fault .ensures) ∙ bytes .before .enum-told .given .1))
+    (wrote (a .base) (a .r) (a .coasting) (now (a .out)) (sym (w .write-fault .ensures) ∙ bytes .before .enum-told .given .1))
 
 pub into-spec : {M : Type 1} → statement M
 into-spec =

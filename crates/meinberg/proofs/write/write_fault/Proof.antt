@@ -8,14 +8,13 @@ use Rattle.reading.specs.declared.Reading.{Reading}
 use Rattle.reading.specs.declared.Fault.{Fault}
 use Rattle.reading.specs.declared.Fault.the-variants.{Length, NotCarried}
 use Rattle.reading.specs.declared.Verdict.the-variants.{Good, Bad}
-use Rattle.reading.specs.Years.{base}
 use Rattle.reading.specs.Checks.{checkedOf}
 use Rattle.meinberg.specs.Layout.{textLength}
 use Rattle.meinberg.specs.Writing.{notCarried, writeFault}
 use Rattle.meinberg.proofs.write.write_fault.Statement.{statement}
 use Rattle.meinberg.proofs.write.write_fault.Tie as tie
 
-module _ (r : Reading) (room : ℕ) where
+module _ (base : ℕ) (r : Reading) (room : ℕ) where
   short : room < textLength → Bad Length ≡ writeFault base r room
   unfolding writeFault
   short h = rw (lt-ltb room textLength h)
@@ -33,7 +32,7 @@ module _ (r : Reading) (room : ℕ) where
   good h e f = rw (le-ltb room textLength h, e, f)
 
 returns : tie.Need-returns
-returns c = short (c .before .args .r) (c .before .args .room) (c .if1 .taken)
+returns c = short (c .before .args .base) (c .before .args .r) (c .before .args .room) (c .if1 .taken)
 
 checked-requires : tie.Need-checked-requires
 checked-requires c κs = search needs
@@ -46,7 +45,7 @@ returns-2 c =
     let fault = c .before .fault in
     let k = c .before .before .before in
     let a = k .before .before .args in
-    faulty (a .r) (a .room) (fault .given .0 .0) (k .before .if1 .left) (sym (k .checked .ensures) ∙ fault .given .1)
+    faulty (a .base) (a .r) (a .room) (fault .given .0 .0) (k .before .if1 .left) (sym (k .checked .ensures) ∙ fault .given .1)
 
 enum-told : tie.Need-enum-told
 enum-told c = search needs
@@ -59,14 +58,14 @@ returns-3 c =
     let n = c .before in
     let k = n .before .before .before in
     let a = k .before .before .args in
-    not-carried (a .r) (a .room) (k .before .if1 .left) (sym (k .checked .ensures) ∙ n .before .enum-told .given .1) (sym (n .not-carried .ensures) ∙ c .if2 .taken)
+    not-carried (a .base) (a .r) (a .room) (k .before .if1 .left) (sym (k .checked .ensures) ∙ n .before .enum-told .given .1) (sym (n .not-carried .ensures) ∙ c .if2 .taken)
 
 returns-4 : tie.Need-returns-4
 returns-4 c =
     let n = c .before in
     let k = n .before .before .before in
     let a = k .before .before .args in
-    good (a .r) (a .room) (k .before .if1 .left) (sym (k .checked .ensures) ∙ n .before .enum-told .given .1) (sym (n .not-carried .ensures) ∙ c .if2 .left)
+    good (a .base) (a .r) (a .room) (k .before .if1 .left) (sym (k .checked .ensures) ∙ n .before .enum-told .given .1) (sym (n .not-carried .ensures) ∙ c .if2 .left)
 
 pub write-fault-spec : {M : Type 1} → statement M
 write-fault-spec =

@@ -1,39 +1,23 @@
 -- `reading::checks::checked` meets its contract. Assumes nothing.
 use borrow.Author.Needs.{needs}
+use mathlib.Core.Path.{sym, _∙_}
 use Rattle.reading.specs.Checks.{checkedOf}
 use Rattle.reading.proofs.checks.checked.Statement.{statement}
 use Rattle.reading.proofs.checks.checked.Tie as tie
 
-time-bad-requires : tie.Need-time-bad-requires
-time-bad-requires c κs = search needs
+is-base-requires : tie.Need-is-base-requires
+is-base-requires c κs = search needs
 
-date-bad-requires : tie.Need-date-bad-requires
-date-bad-requires c κs = search needs
-
-quality-bad-requires : tie.Need-quality-bad-requires
-quality-bad-requires c κs = search needs
-
-is-good-requires : tie.Need-is-good-requires
-is-good-requires c κs = search needs
-
-leap-second-bad-requires : tie.Need-leap-second-bad-requires
-leap-second-bad-requires c κs = search needs
-
-first-fault-requires : tie.Need-first-fault-requires
-first-fault-requires c κs = search needs
+sound-requires : tie.Need-sound-requires
+sound-requires c κs = search needs
 
 returns : tie.Need-returns
 unfolding checkedOf
-returns c = rw (c .first-fault .ensures, c .before .leap-second-bad .ensures, c .before .before .is-good .ensures, c .before .before .before .quality-bad .ensures, c .before .before .before .before .date-bad .ensures, c .before .before .before .before .before .time-bad .ensures)
+returns c = rw (sym (c .before .before .is-base .ensures) ∙ c .before .if1 .taken) (c .sound .ensures)
+
+returns-2 : tie.Need-returns-2
+unfolding checkedOf
+returns-2 c = rw (sym (c .before .is-base .ensures) ∙ c .if1 .left)
 
 pub checked-spec : {M : Type 1} → statement M
-checked-spec =
-    tie.close
-    (tie.spec
-    time-bad-requires
-    date-bad-requires
-    quality-bad-requires
-    is-good-requires
-    leap-second-bad-requires
-    first-fault-requires
-    returns)
+checked-spec = tie.close (tie.spec is-base-requires sound-requires returns returns-2)

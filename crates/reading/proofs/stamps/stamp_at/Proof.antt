@@ -4,6 +4,7 @@ use mathlib.Core.Path.{_≡_, sym, _∙_}
 use mathlib.Core.Bool.{true, false}
 use Prim.Native.Nat.{ℕ}
 use Rattle.reading.specs.declared.Utc.{Utc}
+use Rattle.reading.specs.declared.Since2000.{Since2000}
 use Rattle.reading.specs.declared.Refusal.{Refusal}
 use Rattle.reading.specs.declared.Stamp.the-variants.{At, Refused}
 use Rattle.reading.specs.declared.Fault.the-variants.{OutsideYears}
@@ -13,7 +14,7 @@ use Rattle.reading.proofs.stamps.stamp_at.Statement.{statement}
 use Rattle.reading.proofs.stamps.stamp_at.Tie as tie
 
 module _ (u : Utc) (s : ℕ) where
-  stamped : (n : ℕ) → n ≡ stampNumber u s → hasStamp (u .date .year) ≡ true → At n ≡ stampAt u s
+  stamped : (n : Since2000) → n ≡ record { 0 = stampNumber u s } → hasStamp (u .date .year) ≡ true → At n ≡ stampAt u s
   unfolding stampAt
   stamped n e h = rw (h, e)
 

@@ -1,43 +1,23 @@
 -- `reading::stamps::stamp_number` meets its contract. Assumes nothing.
+use mathlib.Core.Path.{sym, ap, _∙_}
+use Prim.Native.Nat.{ℕ}
+use lib.IntN.{ℤ, subℕ}
 use borrow.Author.Needs.{needs}
-use Rattle.reading.specs.Stamps.{stampNumber}
+use Rattle.reading.proofs.StampLaws.{number-of}
 use Rattle.reading.proofs.stamps.stamp_number.Statement.{statement}
 use Rattle.reading.proofs.stamps.stamp_number.Tie as tie
 
-days-since-zero-requires : tie.Need-days-since-zero-requires
-days-since-zero-requires c κs = search needs
+count-of-requires : tie.Need-count-of-requires
+count-of-requires c κs = search needs
 
-cast-day : tie.Need-cast-day
-cast-day c = search needs
-
-mul-result : tie.Need-mul-result
-mul-result c = search needs
-
-cast-result : tie.Need-cast-result
-cast-result c = search needs
-
-mul-result-2 : tie.Need-mul-result-2
-mul-result-2 c = search needs
-
-add-result : tie.Need-add-result
-add-result c = search needs
-
-add-result-2 : tie.Need-add-result-2
-add-result-2 c = search needs
+from-zero-requires : tie.Need-from-zero-requires
+from-zero-requires c κs = search needs
 
 returns : tie.Need-returns
-unfolding stampNumber
-returns c = rw (c .before .days-since-zero .ensures .0)
+returns c =
+    c .from-zero .ensures
+    ∙ ap (λ (n : ℕ). record { 0 = subℕ n 63114720886 }) (c .before .count-of .ensures .0)
+    ∙ ap (λ (z : ℤ). record { 0 = z }) (sym (number-of _ _))
 
 pub stamp-number-spec : {M : Type 1} → statement M
-stamp-number-spec =
-    tie.close
-    (tie.spec
-    days-since-zero-requires
-    cast-day
-    mul-result
-    cast-result
-    mul-result-2
-    add-result
-    add-result-2
-    returns)
+stamp-number-spec = tie.close (tie.spec count-of-requires from-zero-requires returns)

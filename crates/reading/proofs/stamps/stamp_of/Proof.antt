@@ -8,7 +8,6 @@ use Rattle.reading.specs.declared.Fault.{Fault}
 use Rattle.reading.specs.declared.Verdict.the-variants.{Good, Bad}
 use Rattle.reading.specs.declared.Stamp.{Stamp}
 use Rattle.reading.specs.declared.Stamp.the-variants.{Refused}
-use Rattle.reading.specs.Years.{base}
 use Rattle.reading.specs.Faults.{number}
 use Rattle.reading.specs.Universal.{utcOf}
 use Rattle.reading.specs.Checks.{checkedOf}
@@ -16,7 +15,7 @@ use Rattle.reading.specs.Stamps.{stampAt, stampOf}
 use Rattle.reading.proofs.stamps.stamp_of.Statement.{statement}
 use Rattle.reading.proofs.stamps.stamp_of.Tie as tie
 
-module _ (r : Reading) where
+module _ (base : ℕ) (r : Reading) where
   refused : (x : Fault) (n : Refusal) → checkedOf base r ≡ Bad x → n ≡ number x → Refused n ≡ stampOf base r
   unfolding stampOf
   refused x n e f = rw (e, f)
@@ -47,13 +46,13 @@ returns : tie.Need-returns
 returns c =
     let bad = c .before .before in
     let checks = bad .before .before .checked .ensures in
-    refused _ (bad .fault .given .0 .0) _ (sym checks ∙ bad .fault .given .1) (c .refusal-of .ensures)
+    refused _ _ (bad .fault .given .0 .0) _ (sym checks ∙ bad .fault .given .1) (c .refusal-of .ensures)
 
 returns-2 : tie.Need-returns-2
 returns-2 c =
     let fine = c .before .before in
     let checks = fine .before .before .checked .ensures in
-    good _ _ (sym checks ∙ fine .enum-told .given .1) (rw (← c .before .utc-of .ensures) (c .stamp-at .ensures))
+    good _ _ _ (sym checks ∙ fine .enum-told .given .1) (rw (← c .before .utc-of .ensures) (c .stamp-at .ensures))
 
 pub stamp-of-spec : {M : Type 1} → statement M
 stamp-of-spec =

@@ -13,9 +13,7 @@ use Rattle.reading.specs.declared.Verdict.the-variants.{Good, Bad}
 use Rattle.reading.specs.declared.Written.{Written}
 use Rattle.reading.specs.declared.Written.the-variants.{No as Refused}
 use Rattle.reading.specs.Faults.{number}
-use Rattle.reading.specs.Years.{base}
 use Rattle.reading.specs.Writing.{writtenOf, filled}
-use Rattle.reading.proofs.UtcLaws.{base-fine}
 use Rattle.dcf77.specs.Forms.{shortLength, lengthOf, dueLong}
 use Rattle.dcf77.specs.Writer.{bytesOf, writeFault}
 use Rattle.telegram.specs.declared.Sent.{Sent}
@@ -26,7 +24,7 @@ use Rattle.telegram.proofs.TelegramLaws.{as-written, too-few-bytes, own
 use Rattle.telegram.proofs.Sender.write.Statement.{statement}
 use Rattle.telegram.proofs.Sender.write.Tie as tie
 
-module _ (sender : Sender) (sent : Sent) (head : ℕ) (out : List ℕ) where
+module _ (base : ℕ) (sender : Sender) (sent : Sent) (head : ℕ) (out : List ℕ) where
   abbrev verdict : Verdict
   verdict = telegramFault base sender sent head (length out)
 
@@ -55,7 +53,7 @@ module _ (sender : Sender) (sent : Sent) (head : ℕ) (out : List ℕ) where
     wrote : (w : Written) (after : List ℕ) → v ≡ Good → w ≡ writtenOf (writeFault base r head (length out)) (lengthOf (dueLong r))
         → after ≡ filled (writeFault base r head (length out)) (bytesOf r head) out → Right w after
     wrote w after e answer bytes =
-        rw (as-written base base-fine sender sent head (length out) (sym (found r v is judged) ∙ e), ← is) (answer, bytes)
+        rw (as-written base sender sent head (length out) (sym (found r v is judged) ∙ e), ← is) (answer, bytes)
 
 refusal-of-requires : tie.Need-refusal-of-requires
 refusal-of-requires c κs = search needs
@@ -71,7 +69,7 @@ returns c =
     let w = c .before .before in
     let n = w .before .before in
     let a = n .before .before .before .args in
-    too-short (a .self) (a .sent) (a .head) (a .out .now) (n .refusal-of .result) (w .refuse .result) (w .refuse .last .1 .0) (n .before .if1 .taken)
+    too-short (a .base) (a .self) (a .sent) (a .head) (a .out .now) (n .refusal-of .result) (w .refuse .result) (w .refuse .last .1 .0) (n .before .if1 .taken)
     (n .refusal-of .ensures) (w .refuse .ensures .0) (w .refuse .ensures .1)
 
 telegram-reading-requires : tie.Need-telegram-reading-requires
@@ -105,8 +103,8 @@ returns-2 c =
     let v = t .before .before in
     let r = v .before in
     let a = r .before .before .before .args in
-    wrote (a .self) (a .sent) (a .head) (a .out .now) (r .telegram-reading .result) (v .send-fault .result) (r .telegram-reading .ensures) (v .send-fault .ensures)
-    (w .write .result) (w .write .last .1 .1 .0) (t .enum-told .given .1) (w .write .ensures .0) (w .write .ensures .1)
+    wrote (a .base) (a .self) (a .sent) (a .head) (a .out .now) (r .telegram-reading .result) (v .send-fault .result) (r .telegram-reading .ensures) (v .send-fault .ensures)
+    (w .write .result) (w .write .last .1 .1 .1 .0) (t .enum-told .given .1) (w .write .ensures .0) (w .write .ensures .1)
 
 same-length-3 : tie.Need-same-length-3
 same-length-3 c = search needs
@@ -119,7 +117,7 @@ returns-3 c =
     let v = k .before .before in
     let r = v .before in
     let a = r .before .before .before .args in
-    bad (a .self) (a .sent) (a .head) (a .out .now) (r .telegram-reading .result) (v .send-fault .result) (r .telegram-reading .ensures) (v .send-fault .ensures)
+    bad (a .base) (a .self) (a .sent) (a .head) (a .out .now) (r .telegram-reading .result) (v .send-fault .result) (r .telegram-reading .ensures) (v .send-fault .ensures)
     (k .verdict .given .0 .0) (n .refusal-of2 .result) (w .refuse2 .result) (w .refuse2 .last .1 .0) (r .before .if1 .left) (k .verdict .given .1) (n .refusal-of2 .ensures)
     (w .refuse2 .ensures .0) (w .refuse2 .ensures .1)
 

@@ -8,10 +8,10 @@ use Rattle.timed.proofs.pulses.frames.Statement.{statement}
 use Rattle.timed.proofs.pulses.frames.Tie as tie
 
 abbrev Inv-loop : tie.InvT-loop
-Inv-loop pulses reader₀ sum₀ i₀ reader sum i = i ≤ length pulses
+Inv-loop base pulses reader₀ sum₀ i₀ reader sum i = i ≤ length pulses
 
 abbrev μ-loop : tie.MeasureT-loop
-μ-loop pulses reader₀ sum₀ i₀ reader sum i = length pulses - i
+μ-loop base pulses reader₀ sum₀ i₀ reader sum i = length pulses - i
 
 fresh-requires : tie.Need-fresh-requires Inv-loop μ-loop
 fresh-requires c κs = tt

@@ -8,10 +8,10 @@ use Rattle.timed.proofs.pulses.minutes.Statement.{statement}
 use Rattle.timed.proofs.pulses.minutes.Tie as tie
 
 abbrev Inv-loop : tie.InvT-loop
-Inv-loop symbols reader₀ sum₀ i₀ reader sum i = i ≤ length symbols
+Inv-loop base symbols reader₀ sum₀ i₀ reader sum i = i ≤ length symbols
 
 abbrev μ-loop : tie.MeasureT-loop
-μ-loop symbols reader₀ sum₀ i₀ reader sum i = length symbols - i
+μ-loop base symbols reader₀ sum₀ i₀ reader sum i = length symbols - i
 
 fresh-requires : tie.Need-fresh-requires Inv-loop μ-loop
 fresh-requires c κs = tt

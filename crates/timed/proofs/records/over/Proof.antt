@@ -8,10 +8,10 @@ use Rattle.timed.proofs.records.over.Statement.{statement}
 use Rattle.timed.proofs.records.over.Tie as tie
 
 abbrev Inv-loop : tie.InvT-loop
-Inv-loop op size records page₀ sum₀ at₀ page sum at = (at ≤ length records) × (length page ≡ length page₀)
+Inv-loop base op size records page₀ sum₀ at₀ page sum at = (at ≤ length records) × (length page ≡ length page₀)
 
 abbrev μ-loop : tie.MeasureT-loop
-μ-loop op size records page₀ sum₀ at₀ page sum at = length records - at
+μ-loop base op size records page₀ sum₀ at₀ page sum at = length records - at
 
 loop-holds : tie.Need-loop-holds Inv-loop μ-loop
 loop-holds c = search needs

@@ -8,10 +8,10 @@ use Rattle.timed.proofs.writers.over.Statement.{statement}
 use Rattle.timed.proofs.writers.over.Tie as tie
 
 abbrev Inv-loop : tie.InvT-loop
-Inv-loop op size records page₀ readings sum₀ n₀ at₀ page sum n at = (at ≤ length records) × (n ≤ at) × (length page ≡ length page₀)
+Inv-loop base op size records page₀ readings sum₀ n₀ at₀ page sum n at = (at ≤ length records) × (n ≤ at) × (length page ≡ length page₀)
 
 abbrev μ-loop : tie.MeasureT-loop
-μ-loop op size records page₀ readings sum₀ n₀ at₀ page sum n at = length records - at
+μ-loop base op size records page₀ readings sum₀ n₀ at₀ page sum n at = length records - at
 
 readings-in-requires : tie.Need-readings-in-requires Inv-loop μ-loop
 readings-in-requires c κs = tt

@@ -8,10 +8,10 @@ use Rattle.vectors.proofs.changes.try_changes.Statement.{statement}
 use Rattle.vectors.proofs.changes.try_changes.Tie as tie
 
 abbrev Inv-loop : tie.InvT-loop
-Inv-loop format input₀ changes others₀ change₀ input others change = length input ≡ length input₀
+Inv-loop base format input₀ changes others₀ change₀ input others change = length input ≡ length input₀
 
 abbrev μ-loop : tie.MeasureT-loop
-μ-loop format input₀ changes others₀ change₀ input others change = changes - change
+μ-loop base format input₀ changes others₀ change₀ input others change = changes - change
 
 loop-holds : tie.Need-loop-holds Inv-loop μ-loop
 loop-holds c = search needs

@@ -7,10 +7,10 @@ use Rattle.vectors.proofs.fed.fed_frames.Statement.{statement}
 use Rattle.vectors.proofs.fed.fed_frames.Tie as tie
 
 abbrev Inv-loop : tie.InvT-loop
-Inv-loop pulses reader₀ i₀ reader i = i ≤ length pulses
+Inv-loop base pulses reader₀ i₀ reader i = i ≤ length pulses
 
 abbrev μ-loop : tie.MeasureT-loop
-μ-loop pulses reader₀ i₀ reader i = length pulses - i
+μ-loop base pulses reader₀ i₀ reader i = length pulses - i
 
 slice-aggregate-print-word : tie.Need-slice-aggregate-print-word Inv-loop μ-loop
 slice-aggregate-print-word c = search needs

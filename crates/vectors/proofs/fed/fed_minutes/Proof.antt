@@ -7,10 +7,10 @@ use Rattle.vectors.proofs.fed.fed_minutes.Statement.{statement}
 use Rattle.vectors.proofs.fed.fed_minutes.Tie as tie
 
 abbrev Inv-loop : tie.InvT-loop
-Inv-loop symbols reader₀ i₀ reader i = i ≤ length symbols
+Inv-loop base symbols reader₀ i₀ reader i = i ≤ length symbols
 
 abbrev μ-loop : tie.MeasureT-loop
-μ-loop symbols reader₀ i₀ reader i = length symbols - i
+μ-loop base symbols reader₀ i₀ reader i = length symbols - i
 
 slice-aggregate-print-word : tie.Need-slice-aggregate-print-word Inv-loop μ-loop
 slice-aggregate-print-word c = search needs
