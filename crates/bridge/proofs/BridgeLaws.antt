@@ -10,9 +10,10 @@ use lib.Dec.{ltb}
 use lib.ListN.{length, take, drop}
 use lib.Seq.{take-at, drop-at}
 use borrow.Author.Tests.{lt-ltb, le-ltb, ltb-true, ltb-false}
+use Rattle.reading.specs.Years.{isBase}
 use Rattle.reading.specs.declared.Reading.{Reading}
 use Rattle.reading.specs.declared.Refusal.{Refusal}
-use Rattle.reading.specs.declared.Fault.the-variants.{Length, NotCarried}
+use Rattle.reading.specs.declared.Fault.the-variants.{Length, NotCarried, OtherBase}
 use Rattle.reading.specs.declared.Verdict.the-variants.{Good}
 use Rattle.reading.specs.declared.Written.the-variants.{Length as Wrote, No as Refused}
 use Rattle.reading.specs.Faults.{number}
@@ -22,7 +23,7 @@ use Rattle.strings.specs.declared.Answer.{Answer}
 use Rattle.strings.specs.declared.Answer.the-variants.{Time, No as Untold}
 use Rattle.clock_string.specs.declared.Answer.the-variants.{No}
 use Rattle.clock_string.specs.Reader.{readString, whichever}
-use Rattle.clock_string.proofs.ReadLaws.{Tells, refused-is, accepted-checked}
+use Rattle.clock_string.proofs.ReadLaws.{Tells, refused-is, accepted-checked, other-base}
 use Rattle.irig.specs.declared.Answer.the-variants.{Time as Told}
 use Rattle.irig.specs.Offset.{oddQuarter}
 use Rattle.irig.specs.Faults.{frameLength, readFrame}
@@ -59,6 +60,11 @@ module _ (base : ℕ) (s : List ℕ) where
           → (bridgeAnswer base s (length buffer) ≡ Refused x) × (bridgeFilled way base s buffer ≡ buffer)
       unfolding bridgeAnswer bridgeFilled
       string-refusal-unchanged x e = rw (le-ltb (length buffer) frameLength enough, e) (refl, refl)
+
+      -- so that either string is refused by 19 where the base is none, and leaves the buffer
+      pub other-base-refused : isBase base ≡ false → (length s ≡ 32) ⊎ (length s ≡ 68)
+          → (bridgeAnswer base s (length buffer) ≡ Refused (number OtherBase)) × (bridgeFilled way base s buffer ≡ buffer)
+      other-base-refused g l = string-refusal-unchanged (number OtherBase) (other-base base s l g)
 
       module _ (r : Reading) (coasting : Bool) (accepted : Tells base s r coasting) where
         -- then "an odd quarter at .. the bridge is 11"

@@ -1,9 +1,11 @@
 -- The position part: bytes 41..66 of an accepted Uni Erlangen string, and of no other string any.
-use mathlib.Core.Bool.{Bool}
+use mathlib.Core.Bool.{Bool, false}
 use mathlib.Core.List.{List, []}
 use mathlib.Core.Path.{_≡_, refl}
 use Prim.Native.Nat.{ℕ}
 use lib.ListN.{length}
+use mathlib.Core.Logic.{inr}
+use Rattle.reading.specs.Years.{isBase}
 use Rattle.wire.specs.Layout.{printables}
 use Rattle.reading.specs.declared.Reading.{Reading}
 use Rattle.reading.specs.declared.Refusal.{Refusal}
@@ -17,7 +19,7 @@ use Rattle.erlangen.proofs.Promises.{position-good as bytes-good}
 use Rattle.clock_string.specs.declared.Answer.the-variants.{Meinberg, Erlangen, No}
 use Rattle.clock_string.specs.Reader.{asMeinberg, readString}
 use Rattle.clock_string.specs.Position.{positionFor, startFor, positionOf}
-use Rattle.clock_string.proofs.ReadLaws.{at-32, Way, meinberg, erlangen, neither, way, is-erlangen, erlangen-told}
+use Rattle.clock_string.proofs.ReadLaws.{at-32, Way, meinberg, erlangen, neither, way, is-erlangen, erlangen-told, other-base}
 
 module _ (base : ℕ) (s : List ℕ) where
   pub position-of-erlangen : (r : Reading) (coasting : Bool) → readString base s ≡ Erlangen r coasting → positionOf base s ≡ positionBytes s
@@ -68,3 +70,13 @@ module _ (base : ℕ) (s : List ℕ) where
       → (positionBytes s ≡ positionOf base s) × (startFor (readString base s) ≡ positionAt)
   unfolding positionOf
   part-of-accepted r coasting e = rw (erlangen-told base s r coasting e) (refl, refl)
+
+  -- and with another base than the two no string has one
+  pub no-part-of-other-base : isBase base ≡ false → NoPart base s
+  unfolding positionOf
+  no-part-of-other-base g = go (way base s)
+    where
+      go : Way base s → NoPart base s
+      go (meinberg h w) = no-part-of-32 h
+      go (erlangen h w) = rw (other-base base s (inr h) g) (refl, refl)
+      go (neither w) = rw w (refl, refl)

@@ -7,9 +7,10 @@ use native.Mathlib.Omega.{arith}
 use borrow.Author.Tests.{lt-ltb, le-ltb}
 use lib.Dec.{eqb}
 use lib.ListN.{length}
+use Rattle.reading.specs.Years.{isBase}
 use Rattle.reading.specs.declared.Reading.{Reading}
 use Rattle.reading.specs.declared.Fault.{Fault}
-use Rattle.reading.specs.declared.Fault.the-variants.{Length, LeapSecond}
+use Rattle.reading.specs.declared.Fault.the-variants.{Length, LeapSecond, OtherBase}
 use Rattle.reading.specs.declared.Verdict.{Verdict}
 use Rattle.reading.specs.declared.Verdict.the-variants.{Good, Bad}
 use Rattle.reading.specs.Faults.{number}
@@ -24,7 +25,7 @@ use Rattle.dcf77_table.specs.Table.{minuteMarks}
 use Rattle.dcf77.specs.declared.Answer.the-variants.{Time, No}
 use Rattle.dcf77.specs.Forms.{shortLength, longLength, lengthOf, lastOf, dueLong}
 use Rattle.dcf77.specs.Reader.{readDcf77}
-use Rattle.dcf77.specs.Writer.{valuesOf, carryFault, isGood, needed, roomFault, writeFault}
+use Rattle.dcf77.specs.Writer.{valuesOf, carryFault, isGood, needed, roomFault, writeFault, checkedWith}
 use Rattle.dcf77.proofs.WriteLaws.{carried, length-bytes}
 use Rattle.dcf77.proofs.WrittenBack.{other-form}
 use Rattle.dcf77.proofs.RoundTrip.{read-bytes}
@@ -94,6 +95,10 @@ pub room-all : roomFault Good true shortLength ≡ Bad Length
 unfolding roomFault needed lengthOf
 room-all = refl
 
+other-base-carried : (base : ℕ) (r : Reading) (h : ℕ) → isBase base ≡ false → carryFault base r h ≡ Bad OtherBase
+unfolding carryFault checkedWith
+other-base-carried base r h g = rw g
+
 module _ (base : ℕ) (r : Reading) (h : ℕ) where
   -- fewer than 60 bytes are too few for anything
   pub too-few-bytes : (room : ℕ) → room < shortLength → writeFault base r h room ≡ Bad Length
@@ -109,3 +114,7 @@ module _ (base : ℕ) (r : Reading) (h : ℕ) where
   pub long-needs-all : carryFault base r h ≡ Good → dueLong r ≡ true → writeFault base r h shortLength ≡ Bad Length
   unfolding writeFault
   long-needs-all e k = rw (e, k) room-all
+
+  -- "any other base .. is 19, straight after 1": 60 bytes are enough for it, whatever the reading and the head
+  pub other-base-refused : (room : ℕ) → isBase base ≡ false → shortLength ≤ room → writeFault base r h room ≡ Bad OtherBase
+  other-base-refused room g k = own-code room OtherBase (other-base-carried base r h g) k

@@ -3,13 +3,18 @@
 use mathlib.Core.Bool.{Bool, true, false, _||_}
 use mathlib.Core.List.{List, [], _∷_, _++_, append-assoc}
 use mathlib.Core.Path.{_≡_, refl, sym, ap, _∙_}
-use Prim.Native.Nat.{ℕ, suc, _<_}
+use Prim.Native.Nat.{ℕ, suc, _<_, _+_}
 use native.Mathlib.Omega.{arith}
 use lib.Dec.{ltb, eqb}
-use lib.ListN.{length, getD, take}
+use lib.ListN.{length, getD, take, length-append}
 use lib.Seq.{length-take-le, getD-take}
-use borrow.Author.Tests.{lt-ltb, ltb-true, ne-eqb}
-use Rattle.laws.proofs.Bools.{both}
+use borrow.Author.Tests.{lt-ltb, ltb-true, ne-eqb, eqb-true}
+use mathlib.Core.Logic.{⊎-elim}
+use Rattle.dcf77.proofs.ReadLaws.{other-base}
+use Rattle.reading.specs.Faults.{number}
+use Rattle.reading.specs.Years.{isBase}
+use Rattle.reading.specs.declared.Fault.the-variants.{OtherBase}
+use Rattle.laws.proofs.Bools.{both, either}
 use Rattle.reading.specs.declared.Reading.{Reading}
 use Rattle.reading.specs.declared.Refusal.{Refusal}
 use Rattle.reading.specs.declared.Verdict.the-variants.{Good}
@@ -17,7 +22,7 @@ use Rattle.reading.specs.declared.Written.the-variants.{Length}
 use Rattle.reading.specs.Writing.{writtenOf, filled}
 use Rattle.dcf77.specs.declared.Answer.the-variants.{Time as Told, No as Not}
 use Rattle.dcf77.specs.Forms.{lengthOf, lastOf as lastPlace, dueLong}
-use Rattle.dcf77.specs.Reader.{readDcf77}
+use Rattle.dcf77.specs.Reader.{readDcf77, lengthBad}
 use Rattle.dcf77.specs.Writer.{bytesOf, carryFault, writeFault}
 use Rattle.dcf77.proofs.WriteLaws.{length-bytes}
 use Rattle.dcf77.proofs.RoundTrip.{bytes-read, read-bytes, written-reads}
@@ -98,6 +103,19 @@ pub refused-told : (base : ℕ) (m : List ℕ) (refusal : Refusal) → aMinute m
 unfolding aMinute
 refused-told base m refusal k e before =
     marks-since-gap base before m (marks-gapless m (both (allMarks m) (eqb (length m) 59 || eqb (length m) 60) k .0)) ∙ rw (k, e)
+
+-- 59 or 60 marks and the closing gap have the length of a minute
+length-right : (m : List ℕ) → aMinute m ≡ true → lengthBad (length (m ++ (2 ∷ []))) ≡ false
+unfolding aMinute lengthBad
+length-right m k =
+    let e : length (m ++ (2 ∷ [])) ≡ length m + 1 = length-append m (2 ∷ []) in
+    ⊎-elim (λ h. rw (e, eqb-true (length m) 59 h)) (λ h. rw (e, eqb-true (length m) 60 h))
+    (either (eqb (length m) 59) (eqb (length m) 60) (both (allMarks m) (eqb (length m) 59 || eqb (length m) 60) k .1))
+
+-- a reader that was started with another base than the two says 19 of every minute between two gaps
+pub other-base-told : (base : ℕ) (m : List ℕ) → isBase base ≡ false → aMinute m ≡ true
+    → (before : List ℕ) → owed base (before ++ (2 ∷ (m ++ (2 ∷ [])))) ≡ No (number OtherBase)
+other-base-told base m g k before = refused-told base m (number OtherBase) k (sym (other-base base (m ++ (2 ∷ [])) (number OtherBase) (length-right m k) g refl)) before
 
 -- and what the writer wrote is told, from any buffer
 pub written-told : (base : ℕ) (r : Reading) (head : ℕ) (out : List ℕ) (n : ℕ) → writtenOf (writeFault base r head (length out)) (lengthOf (dueLong r)) ≡ Length n

@@ -127,3 +127,9 @@ module _ (base : ℕ) (r : Reading) (position : List ℕ) (room : ℕ) where
         k .1,
         p .quality,
       )
+
+-- "any other base .. is 19, straight after 1": where room and position part have their lengths, whatever stands in the part, and whatever the reading
+pub other-base-refused : (base : ℕ) (r : Reading) (position : List ℕ) (room : ℕ) → lengthBad position room ≡ false → isBase base ≡ false
+    → writeFault base r position room ≡ Bad OtherBase
+unfolding writeFault
+other-base-refused base r position room e g = rw (e, g)

@@ -1,5 +1,5 @@
 -- The writer: the length of a frame, when there is room for it, when it is written, and what a refusal leaves.
-use mathlib.Core.Bool.{true}
+use mathlib.Core.Bool.{true, false}
 use mathlib.Core.Path.{_≡_, refl, ap, _∙_}
 use mathlib.Core.List.{List, _++_}
 use Prim.Native.Nat.{ℕ, _≤_}
@@ -7,9 +7,11 @@ use borrow.Author.Tests.{le-ltb, ltb-false}
 use lib.Dec.{ltb}
 use lib.ListN.{length, drop, take}
 use lib.Seq.{take-at}
+use Rattle.reading.proofs.BaseLaws.{other-base-checked}
+use Rattle.reading.specs.Years.{isBase}
 use Rattle.reading.specs.declared.Reading.{Reading}
 use Rattle.reading.specs.declared.Fault.{Fault}
-use Rattle.reading.specs.declared.Fault.the-variants.{NotCarried}
+use Rattle.reading.specs.declared.Fault.the-variants.{NotCarried, OtherBase}
 use Rattle.reading.specs.declared.Verdict.the-variants.{Good, Bad}
 use Rattle.reading.specs.declared.Written.the-variants.{Length, No}
 use Rattle.reading.specs.Faults.{number}
@@ -37,6 +39,11 @@ room-enough base r room e =
 pub writable : (base : ℕ) (r : Reading) (room : ℕ) → frameLength ≤ room → carriedOf base r ≡ Good → writeFault base r room ≡ Good
 unfolding writeFault
 writable base r room h e = rw (le-ltb room frameLength h) e
+
+-- "any other base .. is 19, straight after 1": where there is room, whatever the reading
+pub other-base-refused : (base : ℕ) (r : Reading) (room : ℕ) → frameLength ≤ room → isBase base ≡ false → writeFault base r room ≡ Bad OtherBase
+unfolding writeFault carriedOf
+other-base-refused base r room h g = rw (le-ltb room frameLength h, other-base-checked base r g)
 
 -- an odd quarter is not carried, where nothing else is wrong
 pub odd-fault : (base : ℕ) (r : Reading) (room : ℕ) → frameLength ≤ room → checkedOf base r ≡ Good → oddQuarter (r .offset .0) ≡ true

@@ -1,6 +1,6 @@
 -- Every frame of a reading that a frame carries is told after its last pulse, whatever pulses came before it, and also where it
 -- shares its opening mark with the frame before it; 01's case 11.
-use mathlib.Core.Bool.{true}
+use mathlib.Core.Bool.{true, false}
 use mathlib.Core.List.{List, [], _∷_, _++_, append-assoc}
 use mathlib.Core.Path.{_≡_, refl, sym, ap, _∙_}
 use Prim.Native.Nat.{ℕ, _≤_}
@@ -8,6 +8,10 @@ use native.Mathlib.Omega.{arith}
 use lib.ListN.{length, getD, take, drop, length-append, drop-of-length-le}
 use lib.Seq.{split-at}
 use borrow.Author.Tests.{le-leb}
+use Rattle.irig.proofs.RefusalLaws.{other-base}
+use Rattle.reading.specs.Faults.{number}
+use Rattle.reading.specs.Years.{isBase}
+use Rattle.reading.specs.declared.Fault.the-variants.{OtherBase}
 use Rattle.reading.specs.declared.Reading.{Reading}
 use Rattle.reading.specs.declared.Refusal.{Refusal}
 use Rattle.reading.specs.declared.Verdict.the-variants.{Good}
@@ -61,6 +65,12 @@ outlined-told base s o before =
 pub refused-told : (base : ℕ) (s : List ℕ) (refusal : Refusal) → outlineOf framePulses s ≡ true → readFrame base s ≡ Not refusal
     → (before : List ℕ) → owed base (before ++ s) ≡ No refusal
 refused-told base s refusal o e before = outlined-told base s o before ∙ ap saidOf e
+
+-- a reader that was started with another base than the two says 19 of every frame in outline, and of nothing else anything
+pub other-base-told : (base : ℕ) (s : List ℕ) → isBase base ≡ false → outlineOf framePulses s ≡ true
+    → (before : List ℕ) → owed base (before ++ s) ≡ No (number OtherBase)
+other-base-told base s g o before =
+    refused-told base s (number OtherBase) o (other-base base s (outline-length framePulses s o ∙ frame-length) g) before
 
 module _ (base : ℕ) (r : Reading) (good : carriedOf base r ≡ Good) where
   -- whatever came before it

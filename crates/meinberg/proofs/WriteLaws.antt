@@ -5,9 +5,12 @@ use Prim.Native.Nat.{ℕ, _≤_}
 use lib.Dec.{ltb, leb}
 use lib.ListN.{length}
 use borrow.Author.Tests.{le-ltb, ltb-false, not-false}
+use Rattle.reading.proofs.BaseLaws.{other-base-checked}
+use Rattle.reading.specs.Years.{isBase}
+use Rattle.reading.specs.declared.Fault.the-variants.{OtherBase}
 use Rattle.laws.proofs.Bools.{neither}
 use Rattle.reading.specs.declared.Reading.{Reading}
-use Rattle.reading.specs.declared.Verdict.the-variants.{Good}
+use Rattle.reading.specs.declared.Verdict.the-variants.{Good, Bad}
 use Rattle.reading.specs.Checks.{checkedOf}
 use Rattle.reading.proofs.CheckLaws.{first-good}
 use Rattle.reading.proofs.WrittenLaws.{then-good}
@@ -51,6 +54,11 @@ module _ (base : ℕ) (r : Reading) (room : ℕ) where
   pub is-writable : Writable base r room → writeFault base r room ≡ Good
   unfolding writeFault
   is-writable p = rw (le-ltb room textLength (p .enough), p .checked, is-carried r (p .carried))
+
+-- "any other base .. is 19, straight after 1": where there is room, whatever the reading
+pub other-base-refused : (base : ℕ) (r : Reading) (room : ℕ) → textLength ≤ room → isBase base ≡ false → writeFault base r room ≡ Bad OtherBase
+unfolding writeFault
+other-base-refused base r room h g = rw (le-ltb room textLength h, other-base-checked base r g)
 
 pub bytes-length : (r : Reading) (coasting : Bool) → length (bytesOf r coasting) ≡ textLength
 unfolding bytesOf

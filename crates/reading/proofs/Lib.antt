@@ -11,5 +11,6 @@ pub mod StampOrder
 pub mod SignLaws
 pub mod OneDue
 pub mod OwedLaws
+pub mod BaseLaws
 pub mod Unique
 pub mod WrittenLaws

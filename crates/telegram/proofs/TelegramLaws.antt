@@ -1,14 +1,15 @@
 -- Every telegram that is not refused is a minute of DCF77 that reads back, for any base year: the promises, over the definitions that the
 -- contract of `Sender::write` cites.
-use mathlib.Core.Bool.{Bool, true, not, _&&_}
+use mathlib.Core.Bool.{Bool, true, not, _&&_, false}
 use mathlib.Core.List.{List}
 use mathlib.Core.Path.{_≡_, refl, ap, _∙_}
 use Prim.Native.Nat.{ℕ, _≤_, _<_}
 use lib.Dec.{leb, ltb}
 use lib.ListN.{length, take}
+use Rattle.reading.specs.Years.{isBase}
 use Rattle.reading.specs.declared.Refusal.{Refusal}
 use Rattle.reading.specs.declared.Fault.{Fault}
-use Rattle.reading.specs.declared.Fault.the-variants.{Length as Short}
+use Rattle.reading.specs.declared.Fault.the-variants.{Length as Short, OtherBase}
 use Rattle.reading.specs.declared.Verdict.{Verdict}
 use Rattle.reading.specs.declared.Verdict.the-variants.{Good, Bad}
 use Rattle.reading.specs.declared.Written.the-variants.{Length, No}
@@ -28,7 +29,7 @@ use Rattle.summer.proofs.ChangeLaws.{counted, summer-between}
 use Rattle.telegram.specs.declared.Sent.{Sent}
 use Rattle.telegram.specs.declared.Sender.{Sender}
 use Rattle.telegram.specs.Telegram.{utcSent, namedMinute, namedSummer, closedMinute, telegramReading}
-use Rattle.telegram.specs.Faults.{sendFault, telegramFault}
+use Rattle.telegram.specs.Faults.{sendFault, telegramFault, faultWith}
 use Rattle.telegram.proofs.SentLaws.{Fit, fit, named-next, utc-named, named-carried, long-exactly}
 
 -- ---- the telegram is what the DCF77 writer writes
@@ -69,6 +70,15 @@ module _ (base : ℕ) (sender : Sender) (sent : Sent) (head : ℕ) where
   pub long-needs-all : sendFault base sender sent head ≡ Good → due ≡ true → telegramFault base sender sent head shortLength ≡ Bad Short
   unfolding telegramFault
   long-needs-all e k = rw (e, k) room-all
+
+-- "any other base .. is 19, straight after 1", and so before a rule of summer time
+other-base-sent : (base : ℕ) (sender : Sender) (sent : Sent) (head : ℕ) → isBase base ≡ false → sendFault base sender sent head ≡ Bad OtherBase
+unfolding sendFault faultWith
+other-base-sent base sender sent head g = rw g
+
+pub other-base-refused : (base : ℕ) (sender : Sender) (sent : Sent) (head room : ℕ) → isBase base ≡ false → shortLength ≤ room
+    → telegramFault base sender sent head room ≡ Bad OtherBase
+other-base-refused base sender sent head room g h = own-code base sender sent head room OtherBase (other-base-sent base sender sent head g) h
 
 summer-is : (sender : Sender) (sent : Sent) → telegramReading sender sent .summer ≡ isSummer (sender .rule) (namedMinute sent .date) (namedMinute sent .minute)
 unfolding telegramReading namedSummer
