@@ -1,6 +1,6 @@
 """The two pulse-by-pulse readers, straight from the letter's third demand: each keeps the whole
-stream, and after every pulse looks at its last hundred, or at the marks since the gap before. The base
-is given when a reader is started, which any base does; what has the outline is then refused by 19."""
+stream, and after every pulse looks at its last hundred, or at the marks since the gap before. A reader
+is started with any base; where it is none, what has the outline is refused by 19."""
 
 import re
 from typing import Optional

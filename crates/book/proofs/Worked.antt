@@ -75,6 +75,10 @@ reading8 = at 2024 2 29 12 34 0 4 false
 abbrev pub newYear : Reading
 newYear = at 2017 1 1 1 0 0 4 true
 
+-- 1990-01-01 00:30:00 an hour east, which by UTC is of 1989
+abbrev before1990 : Reading
+before1990 = at 1990 1 1 0 30 0 4 false
+
 abbrev since : ℤ → Since2000
 since z = record { 0 = z }
 
@@ -186,7 +190,7 @@ unfolding recordsFrom recordAt nextAt bodyLength readBody number
     sharedMarks lastMarks minuteMarks offsetIn zoneOf zoneBad lastOf dueLong isLong tableFor says minuteReading lengthBad digitFault odd parityFault fieldFault ruleFault saidFault readFault readDcf77 firstYear isBase
 worked-books = (refl, refl, refl)
 
--- case 9 is "accepted, its stamp is code 12", which by L12 "is now -1801"
+-- case 9 is "accepted, its stamp is code 12", which by L12 "is now -1801"; with the base 1990 the first half hour of 1990 is 12
 pub worked-stamps :
     (stampingOf base (Accepted 1 reading2) ≡ Stamped 1 (since (pos 536550209)))
     × (stampingOf base (Accepted 1 reading9) ≡ Stamped 1 (since (negsuc 1800)))
@@ -194,7 +198,8 @@ pub worked-stamps :
     × (stampingOf base (Accepted 3 reading6) ≡ Stamped 3 (since (pos 762530521)))
     × (stampingOf base (Accepted 4 reading8) ≡ Stamped 4 (since (pos 762530465)))
     × (stampingOf base (Accepted 5 newYear) ≡ Stamped 5 (since (pos 536550210)))
+    × (stampingOf 1990 (Accepted 1 before1990) ≡ Unstamped 1 (refusal 12 0))
 unfolding stampOf stampAt stampNumber hasStamp checkedOf timeBad dateBad inHundred offsetGood number
     leapYear daysIn daysBefore yearLength daysBeforeYear dayOfYear dayNumber isMonth lastDay isDay isDate dayBefore
     closesWithLeap leapMinute sixtyBad west east utcMinutes onDay utcOf firstYear isBase soundOf countOf countZero
-worked-stamps = (refl, refl, refl, refl, refl, refl)
+worked-stamps = (refl, refl, refl, refl, refl, refl, refl)

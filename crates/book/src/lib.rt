@@ -1,6 +1,6 @@
 // A book of records: a byte of kind, then a body whose length the kind fixes. `record_at` and `next_at` take a book and
-// any place in it; a `Walk` holds a lent book with its place; `stamps` gives a record its stamp. Every public function
-// takes any input and answers as the definitions of specs/ say.
+// any place in it; a `Walk` holds a lent book with its place and the base; `stamps` gives a record its stamp. What reads or stamps
+// takes the base. Every public function takes any input and answers as the definitions of specs/ say.
 use reading::Fault;
 use reading::Reading;
 use reading::Refusal;

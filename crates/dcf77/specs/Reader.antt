@@ -139,7 +139,7 @@ saidFault s v r =
     (andThen (parityFault s)
     (andThen (fieldFault r (getD v weekday 0)) (ruleFault r (getD v weekday 0) (getD v zone 0) (isLong (length s)))))
 
--- the first fault of the marks s
+-- the first fault of the marks s, read with a base: "straight after 1" is the base's own
 unfoldable pub readFault : ℕ → List ℕ → Verdict
 readFault base s =
     first (lengthBad (length s)) Length

@@ -23,10 +23,11 @@ use reading::faults::written;
 use reading::offsets::same_offset;
 use reading::years::is_base;
 ghost use mathlib.Core.Path.{_≡_};
-ghost use mathlib.Core.Bool.{false, cond};
+ghost use mathlib.Core.Bool.{true, false, cond};
 ghost use Prim.Native.Nat.{_≤_};
 ghost use lib.ListN.{length};
 ghost use Rattle.pulses.specs.Row.{row, laid};
+ghost use Rattle.reading.specs.Years.{isBase};
 ghost use Rattle.reading.specs.Writing.{writtenOf, filled};
 ghost use Rattle.dcf77_table.specs.Table.{minuteMarks};
 ghost use Rattle.dcf77.specs.Forms.{lengthOf, dueLong};
@@ -95,13 +96,11 @@ fn lay_minute(out: &mut [u8], long: bool, plain: [u32; 32])
     out[places::DATE_PARITY] = date;
 }
 
-// The shared checks, with the base's before them and the head's beside the quality's.
+// The shared checks, with the head's beside the quality's. The base was judged before.
 fn checked_with(base: u16, r: Reading, head: u16) -> Verdict
+    requires { ⌜ isBase base ≡ true ⌝ }
     ensures { λ v. ⌜ v ≡ checkedWith base r head ⌝ }
 {
-    if !is_base(base) {
-        return Verdict::Bad(Fault::OtherBase);
-    }
     let offset = r.offset;
     first_fault(
         time_bad(r),
@@ -120,6 +119,7 @@ fn not_carried(r: Reading) -> bool
 }
 
 fn carry_fault(base: u16, r: Reading, head: u16) -> Verdict
+    requires { ⌜ isBase base ≡ true ⌝ }
     ensures { λ v. ⌜ v ≡ carryFault base r head ⌝ }
 {
     let rest = first(not_carried(r), Fault::NotCarried, Verdict::Good);
@@ -165,6 +165,9 @@ impl Dcf77 {
         // too few for any minute, whatever is to be written
         if out.len() < Dcf77::LENGTH {
             return Written::No(refusal_of(Fault::Length));
+        }
+        if !is_base(base) {
+            return Written::No(refusal_of(Fault::OtherBase));
         }
         let long = due_long(r);
         let verdict = room_fault(carry_fault(base, r, head), long, out.len());

@@ -14,7 +14,6 @@ use Rattle.streams.proofs.Window.{window-push, window-full, window-early}
 use Rattle.streams.proofs.Runs as runs
 use Rattle.dcf77_stream.specs.declared.PulseReader.{PulseReader}
 use Rattle.dcf77_stream.specs.declared.Said.{Said}
-use Rattle.dcf77_stream.specs.declared.Said.{Said}
 use Rattle.dcf77_stream.specs.declared.Said.the-variants.{Nothing}
 use Rattle.dcf77_stream.specs.Said.{kept, filler, unfed, keptBy, taken, betweenGaps, saidOf, sayOf, outlined, owed, answers}
 use Rattle.dcf77_stream.proofs.RingLaws.{kept-fresh, kept-length, kept-taken}

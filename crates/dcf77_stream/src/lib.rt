@@ -19,7 +19,7 @@ pub enum Said {
     Nothing,
 }
 
-// The last 62 symbols: the next one goes to place `next` or, from 62 on, to the first; the oldest stands there.
+// The base that was given, and the last 62 symbols: the next one goes to place `next` or, from 62 on, to the first; the oldest stands there.
 pub struct PulseReader {
     pub base: u16,
     pub ring: [u8; 62],

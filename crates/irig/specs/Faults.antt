@@ -94,7 +94,7 @@ valuesFault base v odd =
     (overNine v days || overNine v tensOfDays) (overNine v years || overNine v tensOfYears)
     (parityFault odd (fieldsFault base v))
 
--- the first fault of a frame
+-- the first fault of a frame, read with a base: "straight after 1" is the base's own
 unfoldable pub faultIn : ℕ → List ℕ → Verdict
 faultIn base s =
     first (not (eqb (length s) frameLength)) Length

@@ -66,7 +66,7 @@ pub refused-told : (base : ℕ) (s : List ℕ) (refusal : Refusal) → outlineOf
     → (before : List ℕ) → owed base (before ++ s) ≡ No refusal
 refused-told base s refusal o e before = outlined-told base s o before ∙ ap saidOf e
 
--- a reader that was started with another base than the two says 19 of every frame in outline, and of nothing else anything
+-- a reader that was started with another base than the two says 19 of every frame in outline
 pub other-base-told : (base : ℕ) (s : List ℕ) → isBase base ≡ false → outlineOf framePulses s ≡ true
     → (before : List ℕ) → owed base (before ++ s) ≡ No (number OtherBase)
 other-base-told base s g o before =

@@ -18,7 +18,7 @@ pub enum Said {
     Nothing,
 }
 
-// The last hundred pulses: the next one goes to place `next` or, from 100 on, to the first; the oldest stands there.
+// The base that was given, and the last hundred pulses: the next one goes to place `next` or, from 100 on, to the first; the oldest stands there.
 pub struct PulseReader {
     pub base: u16,
     pub ring: [u8; 100],

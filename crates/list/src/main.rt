@@ -1,6 +1,6 @@
 // Lists a book: reads it from standard input, and writes its listing to standard output. The first argument is the base, 1990 or
-// 2000; without one it is 2000. What the listing says is proved of the crate `listing`; here only bytes come in and go out. A program of Rattle has no exit status, so that what went wrong
-// is said on standard error.
+// 2000; without one it is 2000. What the listing says is proved of the crate `listing`; here the argument is read, and bytes come in
+// and go out. A program of Rattle has no exit status, so that what went wrong is said on standard error.
 use libc::STDERR_FILENO;
 use libc::STDIN_FILENO;
 use libc::STDOUT_FILENO;
@@ -11,7 +11,7 @@ ghost use mathlib.Core.Path.{_≡_};
 ghost use Prim.Native.Nat.{_+_, _≤_};
 ghost use lib.ListN.{length};
 ghost use Rattle.listing.specs.Listing.{largestBook, roomForAny};
-ghost use Rattle.list.specs.Argument.{baseNamed};
+ghost use Rattle.list.specs.Argument.{baseNamed, baseFor};
 ghost use Rattle.list.specs.Input.{Within};
 
 // What came of reading: how many bytes, or that a read failed.
@@ -51,15 +51,22 @@ fn base_named(text: &[u8]) -> u16
     0
 }
 
+// The base for so many words of the command, the program's own name among them, and the first argument.
+fn base_for(words: usize, text: &[u8]) -> u16
+    ensures { λ r. ⌜ r ≡ baseFor words (now (text .entry)) ⌝ }
+{
+    if words < 2 {
+        return 2000;
+    }
+    base_named(text)
+}
+
 // The base that the program is started with. An argument that is longer than the space counts as an empty one, which names none
 // either; those after the first are not looked at.
 fn base_given() -> u16 {
-    if os::arg_count() < 2 {
-        return 2000;
-    }
     let mut space = [0u8; 5];
     let n = os::arg(1, &mut space);
-    base_named(&space[..n])
+    base_for(os::arg_count(), &space[..n])
 }
 
 // Reads until the space is full or the input ends. A read may give fewer bytes than it was asked for.

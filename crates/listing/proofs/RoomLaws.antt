@@ -1,7 +1,7 @@
 -- A buffer of `roomForAny` bytes holds the listing of every book: a record that is not the last has 33 bytes or more, and no
 -- line has more than 88.
 use mathlib.Core.Bool.{Bool, true, false}
-use mathlib.Core.List.{List, [], _++_}
+use mathlib.Core.List.{List, _++_}
 use mathlib.Core.Path.{_≡_, refl, ap}
 use Prim.Native.Nat.{ℕ, zero, suc, _+_, _-_, _*_, _≤_, _<_}
 use native.Mathlib.Decide.{decLe}
@@ -12,7 +12,7 @@ use borrow.Author.Tests.{le-leb, lt-leb, lt-ltb, le-ltb}
 use Rattle.reading.specs.declared.Fault.the-variants.{Length, OtherBase}
 use Rattle.reading.specs.declared.Verdict.the-variants.{Good, Bad}
 use Rattle.reading.specs.declared.Written.{Written}
-use Rattle.reading.specs.declared.Written.the-variants.{Length as Stored, No as NotStored}
+use Rattle.reading.specs.declared.Written.the-variants.{Length as Stored}
 use Rattle.reading.specs.Faults.{number}
 use Rattle.reading.specs.Years.{isBase}
 use Rattle.reading.specs.Writing.{writtenOf}

@@ -1,6 +1,6 @@
 -- "any other base .. is 19, straight after 1": of stamping, which has no length, before everything else; and 19 is given to nothing else.
-use mathlib.Core.Bool.{Bool, true, false, not}
-use mathlib.Core.List.{[], _∷_, _++_}
+use mathlib.Core.Bool.{Bool, true, false}
+use mathlib.Core.List.{[], _∷_}
 use mathlib.Core.Logic.{_↔_}
 use mathlib.Core.Path.{_≡_, refl}
 use Prim.Native.Nat.{ℕ}

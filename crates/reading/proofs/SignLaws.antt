@@ -18,9 +18,9 @@ use Rattle.reading.specs.Checks.{checkedOf}
 use Rattle.reading.specs.Stamps.{dayZero, stampIs, stampOf}
 use Rattle.reading.proofs.YearLaws.{starts-there, hundred}
 use Rattle.reading.proofs.OffsetLaws.{offset-range}
-use Rattle.reading.proofs.CheckLaws.{Checked, checked-is}
-use Rattle.reading.proofs.UtcLaws.{Universal, universal}
-use Rattle.reading.proofs.StampLaws.{not-before, counted, stamp-count, Parts, parts}
+use Rattle.reading.proofs.CheckLaws.{checked-is}
+use Rattle.reading.proofs.UtcLaws.{universal}
+use Rattle.reading.proofs.StampLaws.{not-before, counted, stamp-count, parts}
 
 year-2000 : daysBeforeYear 2000 ≡ 730485
 unfolding daysBeforeYear yearLength leapYear

@@ -3,7 +3,7 @@
 use mathlib.Core.Logic.{_⊎_, inl, inr, ⊎-elim}
 use mathlib.Core.Bool.{Bool, true, false, cond}
 use mathlib.Core.Path.{_≡_, refl, sym, ap, subst, _∙_}
-use Prim.Native.Nat.{ℕ, suc, _+_, _-_, _*_, _/_, _%_, _≤_, _<_}
+use Prim.Native.Nat.{ℕ, suc, _-_, _≤_, _<_}
 use native.Mathlib.Decide.{ℕ-discrete, decLt}
 use native.Mathlib.Omega.{arith}
 use lib.Dec.{T, ltb, lt→ltb, ltb→lt, le→leb}
@@ -11,13 +11,12 @@ use lib.IntN.{ℤ, pos, negsuc, subℕ}
 use lib.Signed.{ltZ, ltZ-yes, leZ-yes, _<ℤ_, _≤ℤ_, <ℤ-irrefl}
 use borrow.Author.Tests.{ltb-true, ltb-false}
 use Rattle.calendar.proofs.WeekdayLaws.{start-number}
-use Rattle.calendar.specs.declared.Date.{Date}
 use Rattle.calendar.specs.Calendar.{dayNumber}
 use Rattle.calendar.specs.Order.{Earlier}
 use Rattle.calendar.proofs.DateLaws.{later, compared}
 use Rattle.reading.specs.declared.Reading.{Reading}
 use Rattle.reading.specs.Universal.{utcOf}
-use Rattle.reading.specs.Stamps.{dayZero, stampIs, stampOf}
+use Rattle.reading.specs.Stamps.{stampIs, stampOf}
 use Rattle.reading.specs.Order.{UtcSecond, utcSecond, EarlierTime, EarlierSecond}
 use Rattle.reading.proofs.StampLaws.{Parts, counted, stamp-count, parts}
 

@@ -7,13 +7,12 @@ use lib.Dec.{ltb}
 use lib.IntN.{ℤ}
 use borrow.Author.Tests.{ltb-true, ltb-false}
 use Rattle.calendar.specs.declared.Date.{Date}
-use Rattle.calendar.specs.Calendar.{leapYear, dayNumber, lastYear, dayAfter, dayBefore}
+use Rattle.calendar.specs.Calendar.{leapYear, dayNumber, dayAfter, dayBefore}
 use Rattle.calendar.proofs.MonthLaws.{year-least}
 use Rattle.calendar.proofs.YearLaws.{year-later}
 use Rattle.calendar.proofs.DateLaws.{Real, real, number-is, lastNumber, before-last, day-after-is, day-before-is}
 use Rattle.reading.specs.declared.Reading.{Reading}
 use Rattle.reading.specs.declared.Utc.{Utc}
-use Rattle.reading.specs.Years.{firstYear}
 use Rattle.reading.specs.Offset.{unit, west, east}
 use Rattle.reading.specs.Universal.{day, utcMinutes, onDay, dateOf, utcOf}
 use Rattle.reading.proofs.YearLaws.{starts-between, hundred}

@@ -1,5 +1,5 @@
--- Two digits and a base name one year of the base's hundred, and the year gives its digits back. Nothing is asked of the base: one that
--- is none has the hundred of 2000, and is refused before a year is asked for.
+-- Two digits and a base name one year of the base's hundred, and the year gives its digits back. Where nothing is said of the
+-- base, it is any number: one that is no base has the hundred of 2000, and is refused before a year is asked for.
 use mathlib.Core.Bool.{Bool, true, false, cond}
 use mathlib.Core.Logic.{_⊎_, inl, inr, ⊎-elim}
 use mathlib.Core.Path.{_≡_, refl}
@@ -41,10 +41,6 @@ starts-between b = go (eqb b 1990)
 
 -- ---- the years of a hundred
 
-pub year-is : (b d : ℕ) → yearOf b d ≡ firstYear b + (d + (100 - firstYear b % 100)) % 100
-unfolding yearOf
-year-is b d = refl
-
 pub hundred : (b y : ℕ) → inHundred b y ≡ true → (firstYear b ≤ y) × (y < firstYear b + 100)
 unfolding inHundred
 hundred b y e = let p = both (leb (firstYear b) y) (ltb y (firstYear b + 100)) e in (leb-true (firstYear b) y (p .0), ltb-true y (firstYear b + 100) (p .1))
@@ -55,17 +51,19 @@ in-hundred b y h k = rw (le-leb (firstYear b) y h, lt-ltb y (firstYear b + 100) 
 
 -- the year named is one of the hundred, and has the digits
 pub year-in : (b d : ℕ) → inHundred b (yearOf b d) ≡ true
-year-in b d = in-hundred b (yearOf b d) (omega (arith, year-is b d)) (omega (arith, year-is b d))
+unfolding yearOf
+year-in b d = in-hundred b (yearOf b d) (omega arith) (omega arith)
 
 pub digits-of : (b d : ℕ) → yearOf b d % 100 ≡ d % 100
-digits-of b d = omega (arith, year-is b d)
+unfolding yearOf
+digits-of b d = omega arith
 
 -- and it is the only one
 pub year-back : (b y : ℕ) → inHundred b y ≡ true → yearOf b (y % 100) ≡ y
-year-back b y e = let h = hundred b y e in omega (arith, year-is b (y % 100))
+unfolding yearOf
+year-back b y e = let h = hundred b y e in omega arith
 
 -- "the one matching year of the hundred that start there": from the base on, fewer than a hundred years later, with the digits
 pub the-one-year : (b y d : ℕ) → isBase b ≡ true → b ≤ y → y < b + 100 → y % 100 ≡ d % 100 → y ≡ yearOf b d
-the-one-year b y d s h k e =
-    let first = starts-there b s in
-    omega (arith, year-is b d)
+unfolding yearOf
+the-one-year b y d s h k e = let first = starts-there b s in omega arith

@@ -1,4 +1,4 @@
--- What can be wrong with a reading that is to be written or stamped, with code and place: "Writers keep place 0."
+-- What can be wrong with a base, and with a reading that is to be written or stamped, with code and place: "Writers keep place 0."
 use mathlib.Core.Bool.{Bool, true, not}
 use mathlib.Core.List.{List, [], _∷_, _++_}
 use mathlib.Core.Path.{_≡_}

@@ -1,6 +1,6 @@
 // A clock reading that knows no format: its fields, the two senses of offset, what can be wrong with it, its UTC and its
-// stamp. Every public function takes any value and answers as the definitions of specs/ say; a base year is any number, and one that is
-// none of the two is refused.
+// stamp. Every public function takes any value and answers as the definitions of specs/ say; a base year is any number, and
+// stamping refuses one that is neither of the two, as every reader and every writer does.
 pub mod checks;
 pub mod faults;
 pub mod leap;

@@ -37,7 +37,7 @@ module _ {S R A : Type 0} (reader : R → S) (said : R → A) (step gives : S �
   pub says-owed : (owed : List ℕ → A) (s : S) → ((ps : List ℕ) → answersOf reader said gives s ps ≡ owedTo owed [] ps) → (ps : List ℕ) → newestOf (owed []) (answersOf reader said step s ps) ≡ owed ps
   says-owed owed s due ps = ap (newestOf (owed [])) (same-answers s ps ∙ due ps) ∙ newest-owed owed [] ps
 
--- ---- what two states' answers need agree on only while something holds of the state, which each pulse taken keeps
+-- ---- two ways to answer say the same of a stream, where they agree while something holds of the state that each pulse taken keeps
 
 pub said-alike : {S A : Type 0} (takes : S → ℕ → S) (says tells : S → ℕ → A) (Holds : S → Type 0) → ((s : S) (p : ℕ) → Holds s → Holds (takes s p))
     → ((s : S) (p : ℕ) → Holds s → says s p ≡ tells s p) → (s : S) → Holds s → (ps : List ℕ) → saidBy takes says s ps ≡ saidBy takes tells s ps

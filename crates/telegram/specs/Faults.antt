@@ -21,7 +21,7 @@ use Rattle.telegram.specs.Telegram.{namedMinute, telegramReading}
 unfoldable pub timeBad : Sent → Bool
 timeBad sent = hourBad (sent .hour) || minuteBad (sent .minute)
 
--- "a configured leap date that is no month end of 2000..2099 is 9"; by L12 "the base's hundred takes the place of 2000..2099"
+-- "a configured leap date that is no month end of 2000..2099 is 9"; by L12 "The base's hundred takes the place of 2000..2099"
 unfoldable pub leapDateBad : ℕ → LeapSecond → Bool
 leapDateBad base None = false
 leapDateBad base (Closes t) = noDay base t || not (closesWithLeap t)

@@ -14,20 +14,20 @@ use Rattle.worked.specs.Given.{minuteWith, sevens}
 -- ---- what is configured
 
 -- a month, a day and a weekday
-abbrev set : ℕ → ℕ → ℕ → SetDay
+abbrev pub set : ℕ → ℕ → ℕ → SetDay
 set m d w = record { month = m; day = d; weekday = w }
 
-abbrev on : ℕ → ℕ → ℕ → Date
+abbrev pub on : ℕ → ℕ → ℕ → Date
 on y m d = record { year = y; month = m; day = d }
 
-abbrev sender : SetDay → SetDay → LeapSecond → Sender
+abbrev pub sender : SetDay → SetDay → LeapSecond → Sender
 sender start end leap = record { rule = record { start = start; end = end }; leap = leap }
 
 -- "25 March with Sunday", and 25 October with Sunday
 abbrev spring : SetDay
 spring = set 3 25 7
 
-abbrev autumn : SetDay
+abbrev pub autumn : SetDay
 autumn = set 10 25 7
 
 abbrev pub plant : LeapSecond → Sender
@@ -43,7 +43,7 @@ leap2016 = Closes (on 2016 12 31)
 
 -- ---- minutes
 
-abbrev at : ℕ → ℕ → ℕ → ℕ → ℕ → Sent
+abbrev pub at : ℕ → ℕ → ℕ → ℕ → ℕ → Sent
 at y mo d h mi = record { date = on y mo d; hour = h; minute = mi }
 
 -- the ones of Sunday, 31 March 2024, of Sunday, 27 October 2024, and of Sunday, 1 January 2017, with the parity of the date
@@ -112,7 +112,7 @@ telegrams =
     ∷ gives (telegram (plant None) (at 2100 1 1 0 0) 0 (sevens 60)) (wroteNone 16 0 (sevens 60))
     ∷ gives (telegram (plant None) (at 2023 2 29 0 0) 0 (sevens 60)) (wroteNone 16 0 (sevens 60))
     ∷ gives (telegram (plant None) (at 2017 1 1 0 0) 32768 (sevens 60)) (wroteNone 17 0 (sevens 60))
-    -- leap seconds that no month end of 2000..2099 has, far from the minute: 30 December, month 13, 31 December 1999
+    -- leap seconds that no month end of the usual base's hundred has, far from the minute: 30 December, month 13, 31 December 1999
     ∷ gives (telegram (plant (Closes (on 2016 12 30))) (at 2024 7 1 0 0) 0 (sevens 60)) (wroteNone 9 0 (sevens 60))
     ∷ gives (telegram (plant (Closes (on 2016 13 0))) (at 2024 7 1 0 0) 0 (sevens 60)) (wroteNone 9 0 (sevens 60))
     ∷ gives (telegram (plant (Closes (on 1999 12 31))) (at 2024 7 1 0 0) 0 (sevens 60)) (wroteNone 9 0 (sevens 60))

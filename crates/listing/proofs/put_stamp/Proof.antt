@@ -2,7 +2,7 @@
 use borrow.Author.Needs.{needs}
 use mathlib.Core.Bool.{true, false}
 use mathlib.Core.List.{List, [], _∷_, _++_}
-use mathlib.Core.Path.{_≡_, refl, sym, ap, subst, _∙_}
+use mathlib.Core.Path.{_≡_, refl, sym, subst, _∙_}
 use Prim.Native.Nat.{ℕ, _+_, _≤_}
 use native.Mathlib.Omega.{arith}
 use borrow.Author.Tests.{ltb-true}
@@ -11,7 +11,6 @@ use lib.IntN.{ℤ, pos, negsuc, natAbs}
 use lib.ListN.{length}
 use lib.Signed.{ltZ}
 use Rattle.laws.proofs.Bools.{never}
-use Rattle.wire.specs.Put.{stored}
 use Rattle.listing.specs.Listing.{field, stampField}
 use Rattle.listing.proofs.PutLaws.{first-room, then-room, both-end, both-held}
 use Rattle.listing.proofs.put_stamp.Statement.{statement}

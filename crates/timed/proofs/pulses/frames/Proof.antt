@@ -1,7 +1,6 @@
 -- `timed::pulses::frames` is safe and ends: the measure is what is left of the pulses. Assumes nothing.
 use native.Mathlib.Omega.{arith}
 use borrow.Author.Needs.{needs}
-use mathlib.Core.Path.{_≡_}
 use Prim.Native.Nat.{_-_, _≤_}
 use lib.ListN.{length}
 use Rattle.timed.proofs.pulses.frames.Statement.{statement}
