@@ -17,6 +17,7 @@ import erlangen
 import ieee1344
 import meinberg
 from bridge import bridge
+from check_base_runs import check_base_runs
 from check_bases import check_bases
 from check_coasting import Case, check_bridged, check_coasting
 from check_door import FILLED, check_door, check_string, check_written
@@ -242,7 +243,7 @@ def main() -> None:
     check = Checks()
     for part in (check_dates, check_month_ends, check_frames, check_layouts, check_listing,
                  check_places, check_door, check_coasting, check_telegrams, check_quarters,
-                 check_bases, check_order, check_streams):
+                 check_bases, check_base_runs, check_order, check_streams):
         part(check)
     for what in check.failed[:50]:
         print("failed: " + what)

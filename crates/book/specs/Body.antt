@@ -49,7 +49,7 @@ readBody base kind s =
     (cond (eqb kind 3) (ofFrame (readFrame base s)) (ofMinute (readDcf77 base s)))
 
 -- what its reader says of a body, with the kind. `Accepted`: the reader takes the body, and this is its reading; a stamp it need
--- not have (case 9: "accepted, its stamp is code 12"). `Refused`: the reader's own code and place
+-- not have ("12 means UTC before 1990 or after 2099"). `Refused`: the reader's own code and place
 abbrev pub recordOf : ℕ → Said → Record
 recordOf kind (Time r) = Accepted kind r
 recordOf kind (No x) = Refused kind x
