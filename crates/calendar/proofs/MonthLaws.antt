@@ -79,6 +79,18 @@ month-has-days l m a b = leb→le 28 (daysIn l m) (then (leb 1 m) (leb 28 (daysI
     all true = tt
     all false = tt
 
+pub month-short : (l : Bool) (m : ℕ) → daysIn l m ≤ 31
+unfolding daysIn
+month-short l m = go (decLt m 13)
+  where
+    all : (l : Bool) → T (below (λ k. leb (daysIn l k) 31) 13)
+    all true = tt
+    all false = tt
+
+    go : Dec (m < 13) → daysIn l m ≤ 31
+    go (yes p) = leb→le (daysIn l m) 31 (at (λ k. leb (daysIn l k) 31) 13 (all l) m p)
+    go (no q) = omega (arith, past-december l m (omega arith))
+
 -- ---- the days before a month, by a formula
 
 pub before-early : (l : Bool) (m : ℕ) → m < 2 → 0 ≡ daysBefore l m

@@ -22,8 +22,8 @@ use Rattle.calendar.proofs.neighbours.day_after.Kinds as day-after-kind
 use Rattle.calendar.proofs.neighbours.day_after.Reads as day-after-reads
 use Rattle.calendar.proofs.neighbours.day_before.Kinds as day-before-kinds
 use Rattle.calendar.proofs.neighbours.day_before.Reads as day-before-reads
-use Rattle.calendar.proofs.table.month_day.Kinds as month-day-kinds
-use Rattle.calendar.proofs.table.month_day.Reads as month-day-reads
+use Rattle.calendar.proofs.days.month_day.Kinds as month-day-kinds
+use Rattle.calendar.proofs.days.month_day.Reads as month-day-reads
 
 pub is-leap-one : Coincide 0 is-leap-kinds.ps is-leap-kinds.r is-leap-reads.Post
 is-leap-one κs a x y e f p q = cc

@@ -1,7 +1,9 @@
-// The number of a day, within its year and over all years, and its weekday.
+// The number of a day, within its year and back from there to month and day, its number over all years, and its weekday.
 use super::Date;
+use super::MonthDay;
 use super::months::is_leap;
 ghost use mathlib.Core.Path.{_≡_};
+ghost use mathlib.Core.Bool.{true};
 ghost use Prim.Native.Nat.{_≤_, _<_, _*_, _^_};
 ghost use Rattle.calendar.specs.Calendar.{
   yearLength,
@@ -10,6 +12,9 @@ ghost use Rattle.calendar.specs.Calendar.{
   dayOfYear,
   dayNumber,
   weekdayOf,
+  monthUpTo,
+  inYear,
+  monthDay,
 };
 
 pub fn year_length(leap: bool) -> u16
@@ -56,6 +61,43 @@ pub fn day_of_year(t: Date) -> u16
     ensures { λ r. ⌜ r ≤ 621 ⌝ }
 {
     days_before(is_leap(t.year), t.month) + (t.day as u16)
+}
+
+fn in_year(leap: bool, day: u16) -> bool
+    ensures { λ r. ⌜ r ≡ inYear leap day ⌝ }
+{
+    (1 <= day) & (day <= year_length(leap))
+}
+
+// Counted from its end a leap year has the months of a common year, down to February: with `left` days after it, this is
+// their day 365 - left. Its month is the last with (153 * month - 162) / 5, the days before it, below that.
+fn month_of(leap: bool, day: u16) -> u8
+    requires { ⌜ inYear leap day ≡ true ⌝ }
+    requires { ⌜ 31 < day ⌝ }
+    ensures { λ r. ⌜ r ≡ monthUpTo leap 12 day ⌝ }
+{
+    let left = year_length(leap) - day;
+    ((1986 - 5 * left) / 153) as u8
+}
+
+// Day `day` of a year, 1 for 1 January.
+pub fn month_day(leap: bool, day: u16) -> MonthDay
+    ensures { λ r. ⌜ r ≡ monthDay leap day ⌝ }
+{
+    if !in_year(leap, day) {
+        return MonthDay { month: 0, day: 0 };
+    }
+    if day < 32 {
+        return MonthDay {
+            month: 1,
+            day: day as u8,
+        };
+    }
+    let month = month_of(leap, day);
+    MonthDay {
+        month,
+        day: (day - days_before(leap, month)) as u8,
+    }
 }
 
 pub fn day_number(t: Date) -> u32

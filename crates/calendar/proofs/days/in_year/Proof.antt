@@ -1,8 +1,8 @@
--- `calendar::table::in_year` meets its contract. Assumes nothing.
+-- `calendar::days::in_year` meets its contract. Assumes nothing.
 use borrow.Author.Needs.{needs}
 use Rattle.calendar.specs.Calendar.{inYear}
-use Rattle.calendar.proofs.table.in_year.Statement.{statement}
-use Rattle.calendar.proofs.table.in_year.Tie as tie
+use Rattle.calendar.proofs.days.in_year.Statement.{statement}
+use Rattle.calendar.proofs.days.in_year.Tie as tie
 
 year-length-requires : tie.Need-year-length-requires
 year-length-requires c κs = search needs
