@@ -69,8 +69,9 @@ fn in_year(leap: bool, day: u16) -> bool
     (1 <= day) & (day <= year_length(leap))
 }
 
-// Counted from its end a leap year has the months of a common year, down to February: with `left` days after it, this is
-// their day 365 - left. Its month is the last with (153 * month - 162) / 5, the days before it, below that.
+// Counted from its end a leap year has the months of a common year, down to February: a day with `left` days after it lies
+// in the month of their day 365 - left. That is the last month with fewer days before it, (153 * month - 162) / 5, which is
+// right from March on, and too small for February, but not so small that another month comes out.
 fn month_of(leap: bool, day: u16) -> u8
     requires { ⌜ inYear leap day ≡ true ⌝ }
     requires { ⌜ 31 < day ⌝ }
