@@ -1,10 +1,10 @@
--- Day of the year to month and day: the code's formula for the month, by one computed test over every day, and the way back to the day of the year.
-use mathlib.Core.Bool.{Bool, true, false, cond, _&&_}
+-- Day of the year to month and day: formulas for the month, by one computed test over every day, and the way back to the day of the year.
+use mathlib.Core.Bool.{Bool, true, false, _&&_}
 use mathlib.Core.Path.{_≡_, refl, sym, subst}
 use Prim.Native.Nat.{ℕ, _+_, _-_, _*_, _/_, _≤_, _<_}
 use native.Mathlib.Omega.{arith}
-use lib.Dec.{T, eqb, eqb→eq, leb, leb→le, ltb}
-use borrow.Author.Tests.{leb-true, le-leb, lt-ltb, le-ltb}
+use lib.Dec.{T, eqb, eqb→eq, leb, leb→le, le→leb, ltb}
+use borrow.Author.Tests.{leb-true, le-leb, lt-ltb}
 use Rattle.laws.proofs.Bools.{both, holds, where-so, then}
 use Rattle.laws.specs.Tests.{below}
 use Rattle.laws.proofs.Tested.{at, and-left, and-right}
@@ -22,40 +22,49 @@ pub within : (l : Bool) (k : ℕ) → inYear l k ≡ true → (1 ≤ k) × (k �
 unfolding inYear
 within l k e = let p = both (leb 1 k) (leb k (yearLength l)) e in (leb-true 1 k (p .0), leb-true k (yearLength l) (p .1))
 
--- ---- the month of a day, by the code's formula
+-- ---- the month of a day, by a formula
 
-unfoldable pub monthOf : Bool → ℕ → ℕ
-monthOf l k = cond (ltb k 32) 1 ((1986 - 5 * (yearLength l - k)) / 153)
+-- with n days after it in its year, day k lies in month (a - b * n) / c, if it is past January
+unfoldable pub fitsOn : ℕ → ℕ → ℕ → Bool → ℕ → Bool
+fitsOn a b c l k = where-so (inYear l k && ltb 31 k) (eqb ((a - b * (yearLength l - k)) / c) (monthUpTo l 12 k))
 
-right : Bool → ℕ → Bool
-right l k = where-so (inYear l k) (eqb (monthOf l k) (monthUpTo l 12 k))
+-- on every day of a leap year and of a common one
+unfoldable pub fits : ℕ → ℕ → ℕ → Bool
+fits a b c = below (fitsOn a b c true) 367 && below (fitsOn a b c false) 367
 
-all-right : (l : Bool) → T (below (right l) 367)
-unfolding right monthOf inYear yearLength monthUpTo daysBefore daysIn
-all-right true = tt
-all-right false = tt
-
--- on every day of a year the code's month is the one that counting gives
-pub month-rule : (l : Bool) (k : ℕ) → inYear l k ≡ true → monthOf l k ≡ monthUpTo l 12 k
-unfolding right
-month-rule l k e =
+-- what fits on every day is the month that counting gives; that the code's three numbers fit, the proof of `month_of` computes
+pub month-rule : (a b c : ℕ) → T (fits a b c) → (l : Bool) (k : ℕ) → inYear l k ≡ true → 31 < k → (a - b * (yearLength l - k)) / c ≡ monthUpTo l 12 k
+unfolding fits fitsOn
+month-rule a b c t l k e h =
     let y = year-least l in
-    let h = within l k e in
-    eqb→eq _ _ (then (inYear l k) (eqb (monthOf l k) (monthUpTo l 12 k)) (at (right l) 367 (all-right l) k (omega arith)) (holds (inYear l k) e))
+    let w = within l k e in
+    let so = inYear l k && ltb 31 k in
+    eqb→eq _ _ (then so (eqb ((a - b * (yearLength l - k)) / c) (monthUpTo l 12 k)) (at (fitsOn a b c l) 367 (half l) k (omega arith)) (holds so (rw (e, lt-ltb 31 k h))))
+  where
+    half : (l : Bool) → T (below (fitsOn a b c l) 367)
+    half true = and-left (below (fitsOn a b c true) 367) (below (fitsOn a b c false) 367) t
+    half false = and-right (below (fitsOn a b c true) 367) (below (fitsOn a b c false) 367) t
 
-pub from-february : (l : Bool) (k : ℕ) → inYear l k ≡ true → 31 < k → (1986 - 5 * (yearLength l - k)) / 153 ≡ monthUpTo l 12 k
-unfolding monthOf
-from-february l k e h = rw (le-ltb k 32 h) at (month-rule l k e)
+isFirst : Bool → ℕ → Bool
+isFirst l k = where-so (leb 1 k) (eqb 1 (monthUpTo l 12 k))
+
+all-first : (l : Bool) → T (below (isFirst l) 32)
+unfolding isFirst monthUpTo daysBefore daysIn
+all-first true = tt
+all-first false = tt
+
+first-month : (l : Bool) (k : ℕ) → 1 ≤ k → k < 32 → 1 ≡ monthUpTo l 12 k
+unfolding isFirst
+first-month l k a h = eqb→eq _ _ (then (leb 1 k) (eqb 1 (monthUpTo l 12 k)) (at (isFirst l) 32 (all-first l) k h) (le→leb 1 k a))
 
 pub is-month-day : (l : Bool) (k m : ℕ) → inYear l k ≡ true → m ≡ monthUpTo l 12 k → record { month = m; day = k - daysBefore l m } ≡ monthDay l k
 unfolding monthDay
 is-month-day l k m e p = rw (e, p)
 
 pub in-january : (l : Bool) (k : ℕ) → inYear l k ≡ true → k < 32 → record { month = 1; day = k } ≡ monthDay l k
-unfolding monthOf
 in-january l k e h =
     let whole : k - 0 ≡ k = omega arith in
-    rw (before-first l, whole) at (is-month-day l k 1 e (rw (lt-ltb k 32 h) at (month-rule l k e)))
+    rw (before-first l, whole) at (is-month-day l k 1 e (first-month l k (within l k e .0) h))
 
 -- ---- month and day, and the day of the year again
 

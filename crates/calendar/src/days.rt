@@ -69,9 +69,9 @@ fn in_year(leap: bool, day: u16) -> bool
     (1 <= day) & (day <= year_length(leap))
 }
 
-// Counted from its end a leap year has the months of a common year, down to February: a day with `left` days after it lies
-// in the month of their day 365 - left. That is the last month with fewer days before it, (153 * month - 162) / 5, which is
-// right from March on, and too small for February, but not so small that another month comes out.
+// Counted from its end every year is alike back to 1 March: a day with `left` days after it is taken as day 365 - left of
+// a common year, and its month is the last with (153 * month - 162) / 5 below that. For February this counts 28 days, not
+// 31, so that 1 February of a leap year, taken as day 31, comes out right too; no day of January is asked for.
 fn month_of(leap: bool, day: u16) -> u8
     requires { ⌜ inYear leap day ≡ true ⌝ }
     requires { ⌜ 31 < day ⌝ }

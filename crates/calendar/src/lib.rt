@@ -4,7 +4,7 @@ pub mod days;
 pub mod months;
 pub mod neighbours;
 
-// The path by which crates above call `days::month_day`, from when a table stood behind it. None is left.
+// The path by which crates above call `days::month_day`. The table that it is named for is gone.
 pub mod table {
     pub use super::days::month_day;
 }
