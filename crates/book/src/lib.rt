@@ -1,6 +1,8 @@
 // A book of records: a byte of kind, then a body whose length the kind fixes. `record_at` and `next_at` take a book and
 // any place in it; a `Walk` holds a lent book with its place and the base; `stamps` gives a record its stamp. What reads or stamps
 // takes the base. Every public function takes any input and answers as the definitions of specs/ say.
+#![tactic(auto)]
+
 ghost use Rattle.std.specs.Prelude.{◌≡◌, ◌+◌, ◌≤◌, length, take, drop};
 ghost use Rattle.book.specs.Body.{read_body};
 ghost use Rattle.book.specs.Book.{record_at, next_at};
@@ -13,7 +15,7 @@ mod body;
 pub mod stamps;
 
 // What the reader of a body says of it: its time, or why there is none.
-#[derive(Drop)]
+#[derive(Clone, Copy)]
 pub enum Said {
     Time(Reading),
     No(Refusal),
@@ -21,7 +23,7 @@ pub enum Said {
 
 // What stands at a place of a book: nothing, as it is past the end, or a record with its kind, whose body is accepted with
 // its reading or refused. An accepted body may still have no stamp.
-#[derive(Drop)]
+#[derive(Clone, Copy)]
 pub enum Record {
     Over,
     Accepted(u8, Reading),
@@ -29,7 +31,7 @@ pub enum Record {
 }
 
 // A record as it is listed: the kind with the stamp of an accepted body, or with the refusal of the body or of its stamp.
-#[derive(Drop)]
+#[derive(Clone, Copy)]
 pub enum Stamping {
     Over,
     Stamped(u8, Since2000),
@@ -83,7 +85,7 @@ pub fn next_at(book: &[u8], at: usize) -> usize
 }
 
 // A walk over a lent book, with the base that its readings are read with.
-#[derive(Drop)]
+#[derive(Clone, Copy)]
 pub struct Walk<'a> {
     pub book: &'a [u8],
     pub at: usize,
@@ -91,7 +93,7 @@ pub struct Walk<'a> {
 }
 
 // What stood at a walk's place, and the walk past it.
-#[derive(Drop)]
+#[derive(Clone, Copy)]
 pub struct Taken<'a> {
     pub walk: Walk<'a>,
     pub found: Record,

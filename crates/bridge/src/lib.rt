@@ -1,6 +1,8 @@
 // The bridge: reads a clock string and writes the IEEE 1344 frame of its reading. A frame has no place for the coasting mark: the
 // clock looks worse in it, unless the caller names the way that drops the mark. The two announcements go over only in the minute
 // before they come true. An odd quarter hour has no frame.
+#![tactic(auto)]
+
 ghost use Rattle.std.specs.Prelude.{◌≡◌, ◌&&◌, length};
 ghost use Rattle.reading.specs.Universal.{utc_of};
 ghost use Rattle.reading.specs.Leap.{leap_window};
@@ -16,7 +18,7 @@ use reading::{Fault, Reading, Refusal, Written};
 use strings::Answer;
 
 // What becomes of a string's coasting mark in its frame: quality 15, whatever the string's own is, or nothing.
-#[derive(Drop)]
+#[derive(Clone, Copy)]
 pub enum Coasting {
     Worse,
     Dropped,

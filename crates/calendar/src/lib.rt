@@ -1,5 +1,7 @@
 // The calendar that everything else rests on: valid dates, the number of a day, its weekday, its neighbours, and its
 // place in the year. Every function takes any value and answers as the definitions of specs/Calendar.antt say.
+#![tactic(auto)]
+
 pub mod days;
 pub mod months;
 pub mod neighbours;
@@ -10,7 +12,7 @@ pub mod table {
 }
 
 // A date, or any three numbers in the place of one.
-#[derive(Drop)]
+#[derive(Clone, Copy)]
 pub struct Date {
     pub year: u16,
     pub month: u8,
@@ -18,7 +20,7 @@ pub struct Date {
 }
 
 // A place within a year.
-#[derive(Drop)]
+#[derive(Clone, Copy)]
 pub struct MonthDay {
     pub month: u8,
     pub day: u8,

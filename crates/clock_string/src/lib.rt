@@ -1,5 +1,7 @@
 // The reader of clock strings: it goes by length, 32 bytes are Meinberg's and 68 are Uni Erlangen's, and its answer names which.
 // Every public function takes any input and answers as the definitions of specs/ say.
+#![tactic(auto)]
+
 ghost use Rattle.std.specs.Prelude.{◌≡◌, ◌+◌};
 ghost use Rattle.clock_string.specs.Reader.{as_meinberg, as_erlangen, is_length, read_string};
 ghost use Rattle.clock_string.specs.Position.{position_of, start_for};
@@ -15,7 +17,7 @@ use wire::layout::byte_at;
 const STX: u8 = 2;
 
 // The time of a Meinberg string or of a Uni Erlangen string, each with its coasting mark, or why there is none.
-#[derive(Drop)]
+#[derive(Clone, Copy)]
 pub enum Answer {
     Meinberg(Reading, bool),
     Erlangen(Reading, bool),

@@ -1,5 +1,7 @@
 // The minute of DCF77: the marks that name the minute which starts after them. Every public function takes any value and
 // answers as the definitions of specs/ say.
+#![tactic(auto)]
+
 mod reader;
 mod rules;
 mod writer;
@@ -8,7 +10,7 @@ pub mod zones;
 use reading::{Reading, Refusal};
 
 // The format, in its form of 60 marks and in that of 61.
-#[derive(Drop)]
+#[derive(Clone, Copy)]
 pub struct Dcf77 {}
 
 impl Dcf77 {
@@ -25,7 +27,7 @@ impl Dcf77 {
 }
 
 // What the reader answers: the time with its head, or why there is none.
-#[derive(Drop)]
+#[derive(Clone, Copy)]
 pub enum Answer {
     Time(Reading, u16),
     No(Refusal),

@@ -1,5 +1,7 @@
 // The DCF77 pulse reader: it keeps the last 62 symbols in a ring. A fresh reader is full of a byte that is no symbol, so that
 // too few symbols are a case of no outline, and every value of its state is legal.
+#![tactic(auto)]
+
 ghost use Rattle.std.specs.Prelude.{◌≡◌, ◌+◌, ◌≤◌, ◌<◌, length, drop};
 ghost use Rattle.dcf77.specs.Reader.{read_dcf77};
 ghost use Rattle.streams.specs.Stream.{push, place_of, unrolled};
@@ -10,7 +12,7 @@ use reading::{Reading, Refusal};
 use wire::put::put_at;
 
 // What is said after a symbol: a time with its head, a refusal or nothing.
-#[derive(Drop)]
+#[derive(Clone, Copy)]
 pub enum Said {
     Time(Reading, u16),
     No(Refusal),
@@ -18,7 +20,7 @@ pub enum Said {
 }
 
 // The base that was given, and the last 62 symbols: the next one goes to place `next` or, from 62 on, to the first; the oldest stands there.
-#[derive(Drop)]
+#[derive(Clone, Copy)]
 pub struct PulseReader {
     pub base: u16,
     pub ring: [u8; 62],
@@ -26,7 +28,7 @@ pub struct PulseReader {
 }
 
 // The next state and the answer.
-#[derive(Drop)]
+#[derive(Clone, Copy)]
 pub struct Stepped {
     pub reader: PulseReader,
     pub said: Said,

@@ -1,4 +1,6 @@
 // The tables of the marks of a DCF77 minute, of its 60 and of its 61, and the row of marks that they drive.
+#![tactic(auto)]
+
 ghost use Rattle.std.specs.Prelude.{◌≡◌};
 ghost use Rattle.pulses.specs.Row.{scan_of, fits_in, laid};
 ghost use Rattle.dcf77_table.specs.Table.{minute_marks};

@@ -1,4 +1,6 @@
 // The IEEE 1344 frame, a hundred pulses that say a time: its reader and its writer. Both take any base, any bytes and any reading.
+#![tactic(auto)]
+
 ghost use Rattle.std.specs.Prelude.{◌≡◌, length};
 ghost use Rattle.reading.specs.Writing.{written_of, filled};
 ghost use Rattle.irig.specs.Faults.{frame_length, answer_of, read_frame};
@@ -14,14 +16,14 @@ mod groups;
 mod offset;
 
 // What the reader answers: the time, or why there is none.
-#[derive(Drop)]
+#[derive(Clone, Copy)]
 pub enum Answer {
     Time(Reading),
     No(Refusal),
 }
 
 // The format.
-#[derive(Drop)]
+#[derive(Clone, Copy)]
 pub struct Ieee1344 {}
 
 impl Ieee1344 {

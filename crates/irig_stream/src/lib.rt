@@ -1,5 +1,7 @@
 // The IEEE 1344 pulse reader: it keeps the last hundred pulses in a ring. A fresh reader is full of a byte that is no pulse, so
 // that too few pulses are a case of no outline, and every value of its state is legal.
+#![tactic(auto)]
+
 ghost use Rattle.std.specs.Prelude.{◌≡◌, ◌+◌, ◌<◌, length};
 ghost use Rattle.streams.specs.Stream.{push, place_of, unrolled};
 ghost use Rattle.irig_stream.specs.Said.{kept, unfed, kept_by, taken, said_of, say_of, owed};
@@ -9,7 +11,7 @@ use reading::{Reading, Refusal};
 use wire::put::put_at;
 
 // What is said after a pulse: a time, a refusal or nothing.
-#[derive(Drop)]
+#[derive(Clone, Copy)]
 pub enum Said {
     Time(Reading),
     No(Refusal),
@@ -17,7 +19,7 @@ pub enum Said {
 }
 
 // The base that was given, and the last hundred pulses: the next one goes to place `next` or, from 100 on, to the first; the oldest stands there.
-#[derive(Drop)]
+#[derive(Clone, Copy)]
 pub struct PulseReader {
     pub base: u16,
     pub ring: [u8; 100],
@@ -25,7 +27,7 @@ pub struct PulseReader {
 }
 
 // The next state and the answer.
-#[derive(Drop)]
+#[derive(Clone, Copy)]
 pub struct Stepped {
     pub reader: PulseReader,
     pub said: Said,

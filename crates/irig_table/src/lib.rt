@@ -1,4 +1,6 @@
 // The table of pulses of an IEEE 1344 frame, and the row of pulses that it drives.
+#![tactic(auto)]
+
 ghost use Rattle.std.specs.Prelude.{◌≡◌, ◌<◌, ◌≤◌, get_or};
 ghost use Rattle.pulses.specs.Outline.{outline_of};
 ghost use Rattle.pulses.specs.Row.{scan_of, fits_in, laid};
@@ -8,7 +10,7 @@ ghost use Rattle.irig_table.specs.Paper.{field_of, factor_of, pulse_at};
 use pulses::Scan;
 
 // What a pulse stands for: one of the paper's fields, and how much it weighs in it.
-#[derive(Drop)]
+#[derive(Clone, Copy)]
 pub struct Pulse {
     pub field: u8,
     pub weight: u32,

@@ -1,6 +1,8 @@
 // Lists a book: reads it from standard input, and writes its listing to standard output. The first argument is the base, 1990 or
 // 2000; without one it is 2000. What the listing says is proved of the crate `listing`; here the argument is read, and bytes come in
 // and go out. A program of Rattle has no exit status, so that what went wrong is said on standard error.
+#![tactic(auto)]
+
 ghost use Rattle.std.specs.Prelude.{◌≡◌, ◌+◌, ◌≤◌, length};
 ghost use Rattle.listing.specs.Listing.{largest_book, room_for_any};
 ghost use Rattle.list.specs.Argument.{base_named, base_for};
@@ -11,7 +13,7 @@ use listing::{LARGEST_BOOK, ROOM};
 use reading::Written;
 
 // What came of reading: how many bytes, or that a read failed.
-#[derive(Drop)]
+#[derive(Clone, Copy)]
 enum Input {
     Bytes(usize),
     Failed,

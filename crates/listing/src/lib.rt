@@ -1,4 +1,6 @@
 // The listing of a book as text in a lent buffer: a header, then a line a record.
+#![tactic(auto)]
+
 ghost use Rattle.std.specs.Prelude.{◌≡◌, ◌+◌, ◌≤◌, length};
 ghost use Rattle.reading.specs.Writing.{written_of, filled};
 ghost use Rattle.wire.specs.Put.{stored};

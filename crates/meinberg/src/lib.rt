@@ -1,5 +1,7 @@
 // The Meinberg string: 32 bytes, STX `D:dd.mm.yy;T:w;U:hh.mm.ss;uvxy` ETX, its length and its writer; `clock_string` reads
 // it. Every public function takes any value and answers as the definitions of specs/ say.
+#![tactic(auto)]
+
 ghost use Rattle.std.specs.Prelude.{◌≡◌, length};
 ghost use Rattle.reading.specs.Writing.{written_of, filled};
 ghost use Rattle.meinberg.specs.Layout.{text_length};
@@ -13,7 +15,7 @@ mod write;
 mod zones;
 
 // The format; it has no values of its own.
-#[derive(Drop)]
+#[derive(Clone, Copy)]
 pub struct Meinberg {}
 
 impl Meinberg {

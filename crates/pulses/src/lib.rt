@@ -1,5 +1,7 @@
 // A row of pulses, driven by a table that the caller lends: which pulses are good, what their groups add up to, the
 // row that says given values, and the count of ones. Every function takes any slices and any numbers.
+#![tactic(auto)]
+
 pub mod outline;
 
 ghost use Rattle.std.specs.Prelude.{◌≡◌, ◌+◌, ◌*◌, ◌%◌, ◌<◌, ◌≤◌, min, length};
@@ -81,7 +83,7 @@ fn share(entry: u32, pulse: u8) -> u32
 }
 
 // What one pass over the pulses finds: how many of them are good, up to the first that is not, and what those add up to.
-#[derive(Drop)]
+#[derive(Clone, Copy)]
 pub struct Scan {
     pub good: usize,
     pub sums: [u32; 32],

@@ -29,12 +29,12 @@ opposite_size (negsuc n) = omega arith
 
 -- an amount is read back as it is
 pub same_amount : (z : ℤ) → mag z < 32768 → back16 z ≡ z
-same_amount z h = to_z-of_z (record { sfits = h })
+same_amount z h = to_z-of_z {w = w16} (record { sfits = h })
 
 -- and so is an offset, as what it is and as an amount; its negative is an amount, and is the opposite
 module _ (z : ℤ) (h : mag z < 128) where
   pub same_offset : back z ≡ z
-  same_offset = to_z-of_z (record { sfits = h })
+  same_offset = to_z-of_z {w = w8} (record { sfits = h })
 
   pub offset_fits : SFits w16 (back z)
   offset_fits = subst (λ (y : ℤ). SFits w16 y) (sym same_offset) (record { sfits = omega arith })

@@ -1,6 +1,8 @@
 // A clock reading that knows no format: its fields, the two senses of offset, what can be wrong with it, its UTC and its
 // stamp. Every public function takes any value and answers as the definitions of specs/ say; a base year is any number, and
 // stamping refuses one that is neither of the two, as every reader and every writer does.
+#![tactic(auto)]
+
 pub mod checks;
 pub mod faults;
 pub mod leap;
@@ -10,16 +12,16 @@ pub mod universal;
 pub mod years;
 
 // Local time minus UTC, in quarter hours: what strings and readings say.
-#[derive(Drop)]
+#[derive(Clone, Copy)]
 pub struct LocalMinusUtc(pub i8);
 
 // What is added to local time to give UTC, in quarter hours too: the sense of IEEE 1344. Wider, so that every offset has its
 // opposite.
-#[derive(Drop)]
+#[derive(Clone, Copy)]
 pub struct AddedToLocal(pub i16);
 
 // A clock's time. Every value of it is legal; which values are a time is said by `checks::checked`.
-#[derive(Drop)]
+#[derive(Clone, Copy)]
 pub struct Reading {
     pub year: u16,
     pub month: u8,
@@ -38,14 +40,14 @@ pub struct Reading {
 }
 
 // The UTC day and minute of the day, 0..1439.
-#[derive(Drop)]
+#[derive(Clone, Copy)]
 pub struct Utc {
     pub date: calendar::Date,
     pub minute: u16,
 }
 
 // What can be wrong, with the place of the field where there is one.
-#[derive(Drop)]
+#[derive(Clone, Copy)]
 pub enum Fault {
     Length,
     Byte(usize),
@@ -67,31 +69,31 @@ pub enum Fault {
     UnknownKind,
 }
 
-#[derive(Drop)]
+#[derive(Clone, Copy)]
 pub enum Verdict {
     Good,
     Bad(Fault),
 }
 
 // A code of document 01 and the place that goes with it.
-#[derive(Drop)]
+#[derive(Clone, Copy)]
 pub struct Refusal {
     pub code: u8,
     pub place: usize,
 }
 
 // The stamp of a UTC second: how far it lies from the start of 2000, below zero before it.
-#[derive(Drop)]
+#[derive(Clone, Copy)]
 pub struct Since2000(pub i64);
 
-#[derive(Drop)]
+#[derive(Clone, Copy)]
 pub enum Stamp {
     At(Since2000),
     Refused(Refusal),
 }
 
 // What a writer answers: how many bytes it wrote, or why it wrote none.
-#[derive(Drop)]
+#[derive(Clone, Copy)]
 pub enum Written {
     Length(usize),
     No(Refusal),

@@ -1,5 +1,7 @@
 // What the clock strings share: the checks of a date and a time of day that were read off a string, in the order of their
 // codes and, within one code, of their places.
+#![tactic(auto)]
+
 pub mod letters;
 
 ghost use Rattle.std.specs.Prelude.{◌≡◌};
@@ -12,14 +14,14 @@ use reading::faults::refusal_of;
 use reading::{Fault, Reading, Refusal, Verdict};
 
 // What a string says in one of the formats: the time with its coasting mark, or why there is none.
-#[derive(Drop)]
+#[derive(Clone, Copy)]
 pub enum Answer {
     Time(Reading, bool),
     No(Refusal),
 }
 
 // Where a format has each field.
-#[derive(Drop)]
+#[derive(Clone, Copy)]
 pub struct Places {
     pub day: usize,
     pub month: usize,

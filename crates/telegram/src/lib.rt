@@ -1,5 +1,7 @@
 // A plant's own DCF77: the minute of marks that is sent during a minute of UTC and names the minute after it, by the plant's rule of
 // summer time. The public function takes any value and answers as the definitions of specs/ say.
+#![tactic(auto)]
+
 mod checks;
 mod named;
 
@@ -20,21 +22,21 @@ use reading::{Fault, Refusal, Verdict, Written};
 use summer::SummerRule;
 
 // The leap second that a plant has configured: none, or one that closes a day of UTC.
-#[derive(Drop)]
+#[derive(Clone, Copy)]
 pub enum LeapSecond {
     None,
     Closes(Date),
 }
 
 // What a plant configures once.
-#[derive(Drop)]
+#[derive(Clone, Copy)]
 pub struct Sender {
     pub rule: SummerRule,
     pub leap: LeapSecond,
 }
 
 // The minute of UTC that is being sent, or any numbers in the place of one.
-#[derive(Drop)]
+#[derive(Clone, Copy)]
 pub struct Sent {
     pub date: Date,
     pub hour: u8,

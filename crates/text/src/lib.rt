@@ -1,4 +1,6 @@
 // Numbers as text: a number's decimal digits stored into a lent buffer.
+#![tactic(auto)]
+
 ghost use Rattle.std.specs.Prelude.{◌≡◌, [], ◌≤◌, length, drop};
 ghost use Rattle.wire.specs.Put.{stored};
 ghost use Rattle.text.specs.Decimal.{decimal, stored_length};
@@ -6,7 +8,7 @@ ghost use Rattle.text.specs.Decimal.{decimal, stored_length};
 use wire::put::put_at;
 
 // The digits of a number, from place `from` of `bytes` on.
-#[derive(Drop)]
+#[derive(Clone, Copy)]
 struct Digits {
     bytes: [u8; 20],
     from: usize,

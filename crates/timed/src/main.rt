@@ -1,6 +1,8 @@
 // Does one operation on each of the records that stand on standard input, and prints a sum over the answers: a program to
 // count instructions on. The input is a byte that names the operation, a byte with the length of a record, two bytes of
 // the base, and the records; bench/rows.py has the operations, and bench/c/timed.c is the same program over the C baseline.
+#![tactic(auto)]
+
 mod answers;
 mod fed;
 mod fields;

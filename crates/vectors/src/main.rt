@@ -1,5 +1,7 @@
 // Answers the cases that stand on standard input, a line each, with the proved functions, and prints as it goes.
 // second/README.md says what a case is; what this prints is compared with what the independent second program answers.
+#![tactic(auto)]
+
 ghost use Rattle.std.specs.Prelude.{◌≡◌, length};
 ghost use Rattle.listing.specs.Listing.{room_for_any};
 

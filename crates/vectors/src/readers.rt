@@ -6,7 +6,7 @@ use irig::Ieee1344;
 use reading::{LocalMinusUtc, Reading, Refusal};
 
 // A time, one with what stands beside it, one of either clock string with its coasting mark, or a refusal.
-#[derive(Drop)]
+#[derive(Clone, Copy)]
 pub(crate) enum Told {
     Time(Reading),
     Beside(Reading, u64),

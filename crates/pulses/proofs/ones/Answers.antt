@@ -1,0 +1,66 @@
+-- `pulses::ones` meets its contract: the two words count the two parts. Assumes nothing.
+use native.Mathlib.Omega.{arith}
+use mathlib.Core.Path.{◌≡◌, sym}
+use Prim.Native.Nat.{◌+◌, ◌≤◌}
+use lib.Count as Count
+use lib.ListN.{length}
+use Rattle.laws.proofs.Bools.{failed, passed}
+use Rattle.pulses.specs.Row.{most_packed, ones_of}
+use Rattle.pulses.proofs.OnesLaws.{part_lies, ones_of_none, ones_of_two}
+use borrow.Author.Rules.{rules}
+use mathlib.Core.Path.{ap}
+use mathlib.Core.Bool.{not}
+use Rattle.pulses.proofs.ones.Goals as goal
+
+pub returns-then-not-lies_within : goal.returns-then-not-lies_within
+returns-then-not-lies_within c = record {
+      value = sym (ones_of_none _ _ _ (failed c.lies_within.ensures (ap not c.if-not-lies_within.true)));
+      upper_bound = omega arith;
+    }
+
+pub packed-high-requires : goal.packed-high-requires
+packed-high-requires c =
+    let known : let a = c.args in
+    (a.from + a.count ≤ length a.pulses.now) × (a.count ≤ most_packed) = part_lies _ _ _ (passed c.lies_within.ensures (ap not c.if-not-lies_within.false)) in
+    let k = known in omega arith
+
+pub overflow_add-from : goal.overflow_add-from
+overflow_add-from c =
+    let known : let a = c.args in
+    (a.from + a.count ≤ length a.pulses.now) × (a.count ≤ most_packed) = part_lies _ _ _ (passed c.lies_within.ensures (ap not c.if-not-lies_within.false)) in
+    let k = known in omega arith
+
+pub packed-low-requires : goal.packed-low-requires
+packed-low-requires c =
+    let known : let a = c.args in
+    (a.from + a.count ≤ length a.pulses.now) × (a.count ≤ most_packed) = part_lies _ _ _ (passed c.lies_within.ensures (ap not c.if-not-lies_within.false)) in
+    let k = known in omega arith
+
+pub overflow_add-result : goal.overflow_add-result
+overflow_add-result c =
+    let known : let a = c.args in
+    (a.from + a.count ≤ length a.pulses.now) × (a.count ≤ most_packed) = part_lies _ _ _ (passed c.lies_within.ensures (ap not c.if-not-lies_within.false)) in
+    let whole : let a = c.args in
+    let n = Count.ones c.packed-high.result + Count.ones c.packed-low.result in
+    (n ≡ ones_of a.from a.count a.pulses.now) × (n ≤ most_packed) = let a = c.args in
+    let k = known in
+    let x = c.packed-high in
+    let y = c.packed-low in
+    ones_of_two a.from a.count c.smaller-first.result (Count.ones x.result) (Count.ones y.result) a.pulses.now
+    (omega arith) k.0 k.1 x.ensures y.ensures in
+    omega (arith, (whole).1)
+
+pub returns : goal.returns
+returns c =
+    let both = let known : let a = c.args in
+    (a.from + a.count ≤ length a.pulses.now) × (a.count ≤ most_packed) = part_lies _ _ _ (passed c.lies_within.ensures (ap not c.if-not-lies_within.false)) in
+    let whole : let a = c.args in
+    let n = Count.ones c.packed-high.result + Count.ones c.packed-low.result in
+    (n ≡ ones_of a.from a.count a.pulses.now) × (n ≤ most_packed) = let a = c.args in
+    let k = known in
+    let x = c.packed-high in
+    let y = c.packed-low in
+    ones_of_two a.from a.count c.smaller-first.result (Count.ones x.result) (Count.ones y.result) a.pulses.now
+    (omega arith) k.0 k.1 x.ensures y.ensures in
+    whole in
+    record { value = both.0; upper_bound = both.1 }

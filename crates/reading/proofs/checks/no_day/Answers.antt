@@ -1,0 +1,6 @@
+-- `reading::checks::no_day` meets its contract. Assumes nothing.
+use borrow.Author.Rules.{rules}
+use Rattle.reading.proofs.checks.no_day.Goals as goal
+
+pub returns : goal.returns
+returns c = rw (c.in_hundred.ensures, c.is_date.ensures)

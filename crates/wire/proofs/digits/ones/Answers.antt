@@ -1,0 +1,9 @@
+-- `wire::digits::ones` meets its contract. Assumes nothing.
+use borrow.Author.Rules.{rules}
+use mathlib.Core.Path.{refl}
+use Rattle.wire.specs.Digits.{ones}
+use Rattle.wire.proofs.digits.ones.Goals as goal
+
+pub returns : goal.returns
+unfolding ones
+returns c = refl
