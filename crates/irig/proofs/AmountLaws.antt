@@ -35,7 +35,7 @@ not_negative (negsuc n) e = never (sym e)
 
 module _ (z : ℤ) (h : mag z < 32768) where
   same : back w16 z ≡ z
-  same = to_z-of_z (record { sfits = h })
+  same = to_z-of_z {w = w16} (record { sfits = h })
 
   pub sign_is : lt_z (back w16 z) (pos 0) ≡ is_minus z
   sign_is = ap (λ (y : ℤ). lt_z y (pos 0)) same ∙ below-zero z

@@ -22,7 +22,7 @@ pub record Sound (r : Reading) (w : ℕ) (offset mark : Bool) : Type 0 where
   pub second : r.second ≤ 60
   pub date : is_date (date_of r) ≡ true
   pub weekday : w ≡ weekday_of (date_of r)
-  pub offset_good_lem : offset ≡ false
+  pub offset_good : offset ≡ false
   pub mark_good : mark ≡ false
   pub leap : sixty_bad (utc_of r) r.second ≡ false
 
@@ -46,7 +46,7 @@ module _ (r : Reading) (w : ℕ) (offset mark : Bool) (p : Places) where
         second = ltb-false 60 r.second second.0;
         date = date_there r day.0 month.0;
         weekday = weekday_there r w wrong.0;
-        offset_good_lem = zone.0;
+        offset_good = zone.0;
         mark_good = nine.1;
         leap = nine.0;
       }

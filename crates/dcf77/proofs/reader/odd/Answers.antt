@@ -1,0 +1,8 @@
+-- `dcf77::reader::odd` meets its contract. Assumes nothing.
+use borrow.Author.Rules.{rules}
+use Rattle.dcf77.specs.Reader.{odd}
+use Rattle.dcf77.proofs.reader.odd.Goals as goal
+
+pub returns : goal.returns
+unfolding odd
+returns c = rw c.ones.ensures.value

@@ -1,0 +1,8 @@
+-- `dcf77::writer::evened` meets its contract. Assumes nothing.
+use borrow.Author.Rules.{rules}
+use Rattle.dcf77.specs.Writer.{evened}
+use Rattle.dcf77.proofs.writer.evened.Goals as goal
+
+pub returns : goal.returns
+unfolding evened
+returns c = rw c.ones.ensures.value

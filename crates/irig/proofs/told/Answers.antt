@@ -1,0 +1,24 @@
+-- `irig::told` meets its contract. Assumes nothing.
+use mathlib.Core.Path.{◌≡◌}
+use Rattle.reading.specs.declared.Reading.{Reading}
+use Rattle.reading.specs.declared.Refusal.{Refusal}
+use Rattle.reading.specs.declared.Fault.{Fault}
+use Rattle.reading.specs.declared.Verdict.{Verdict}
+use Rattle.reading.specs.declared.Verdict.TheVariants.{Good, Bad}
+use Rattle.reading.specs.Faults.{number}
+use Rattle.irig.specs.declared.Answer.TheVariants.{Time, No}
+use Rattle.irig.specs.Faults.{answer_of}
+use Rattle.irig.proofs.told.Goals as goal
+
+timed : (v : Verdict) (r : Reading) → v ≡ Good → Time r ≡ answer_of v r
+timed v r e = rw e
+
+refused : (v : Verdict) (r : Reading) (x : Fault) (n : Refusal) → v ≡ Bad x → n ≡ number x → No n ≡ answer_of v r
+refused v r x n e f = rw (e, f)
+
+pub returns-in-Good : goal.returns-in-Good
+returns-in-Good c = timed c.args.verdict _ c.in-Good.is
+
+pub returns-in-Bad : goal.returns-in-Bad
+returns-in-Bad c =
+    refused c.args.verdict _ c.in-Bad.fault _ c.in-Bad.is c.refusal_of.ensures
