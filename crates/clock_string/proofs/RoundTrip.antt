@@ -41,7 +41,7 @@ module _ (base : ℕ) (r : Reading) (coasting : Bool) (buffer : List ℕ) where
   meinberg_written_reads n e =
       let a = length_is (meinbergFault base r (length buffer)) text_length n e in
       let t = take n meinberg_after in
-      let w = rw (sym a.1) at (meinberg.written-reads base r coasting buffer a.0) in
+      let w = rw (sym a.1) at (meinberg.written_reads base r coasting buffer a.0) in
       let told = meinberg_told base t r coasting w in
       (a.1, told, position_of_meinberg base t r coasting told)
 
@@ -53,7 +53,7 @@ module _ (base : ℕ) (r : Reading) (coasting : Bool) (buffer : List ℕ) where
     pub erlangen-written-reads : (n : ℕ) → written_of (erlangenFault base r position (length buffer)) size ≡ Wrote n
         → (n ≡ size) × (read_string base (take n erlangenAfter) ≡ Erlangen r coasting) × (position_of base (take n erlangenAfter) ≡ position)
     erlangen-written-reads n e =
-        let w = erlangen.written-reads base r coasting position buffer n e in
+        let w = erlangen.written_reads base r coasting position buffer n e in
         let t = take n erlangenAfter in
         let told = erlangen_told base t r coasting w.1 in
         (w.0, told, position_of_erlangen base t r coasting told ∙ w.2)
@@ -66,14 +66,14 @@ module _ (base : ℕ) (s : List ℕ) (r : Reading) (coasting : Bool) (buffer : L
       × (filled (meinbergFault base r (length buffer)) (meinbergBytes r coasting) buffer ≡ s ++ drop text_length buffer)
   meinberg_read_writes e h =
       let p = is_meinberg base s r coasting e in
-      let good = meinberg.read-writable base s r coasting p.1 (length buffer) h in
-      rw (good, meinberg.read-writes base s r coasting p.1, p.0) (refl, refl)
+      let good = meinberg.read_writable base s r coasting p.1 (length buffer) h in
+      rw (good, meinberg.read_writes base s r coasting p.1, p.0) (refl, refl)
 
   pub erlangen_read_writes : read_string base s ≡ Erlangen r coasting → size ≤ length buffer
       → (written_of (erlangenFault base r (position_of base s) (length buffer)) size ≡ Wrote size)
       × (filled (erlangenFault base r (position_of base s) (length buffer)) (erlangenBytes r coasting (position_of base s)) buffer ≡ s ++ drop size buffer)
   erlangen_read_writes e h =
-      rw (position_of_erlangen base s r coasting e) (erlangen.read-rewrites base s r coasting (is_erlangen base s r coasting e).1 buffer h)
+      rw (position_of_erlangen base s r coasting e) (erlangen.read_rewrites base s r coasting (is_erlangen base s r coasting e).1 buffer h)
 
 -- ---- "Accept exactly the strings that document 01 draws": those that one of the two writers writes for some reading that it carries
 
@@ -96,7 +96,7 @@ module _ (base : ℕ) (s : List ℕ) where
     where
       there : (read_string base s ≡ Erlangen r coasting) × (position_of base s ≡ position) → ByErlangen r coasting position
       there e =
-          let w = erlangen.read-writes base s r coasting (is_erlangen base s r coasting e.0).1 size (omega arith) in
+          let w = erlangen.read_writes base s r coasting (is_erlangen base s r coasting e.0).1 size (omega arith) in
           let p = sym (position_of_erlangen base s r coasting e.0) ∙ e.1 in
           (rw p at w.0, sym (rw p at w.1))
 
@@ -129,8 +129,8 @@ module _ (base : ℕ) (s : List ℕ) where
   stamped_or_12 r coasting e x = go (named base s r coasting e)
     where
       go : Named base s r coasting → stamp_of base r ≡ Refused x → x ≡ number OutsideYears
-      go (by_meinberg w) = meinberg.accepted-stamped base s r coasting (is_meinberg base s r coasting w).1 x
-      go (by_erlangen w) = erlangen.stamped-or-12 base s r coasting (is_erlangen base s r coasting w).1 x
+      go (by_meinberg w) = meinberg.accepted_stamped base s r coasting (is_meinberg base s r coasting w).1 x
+      go (by_erlangen w) = erlangen.stamped_or_12 base s r coasting (is_erlangen base s r coasting w).1 x
 
 -- no two strings get the same answer with a time in it, and the same position part
 pub one_string : (base : ℕ) (s t : List ℕ) (r : Reading) (coasting : Bool) → Tells base s r coasting → read_string base s ≡ read_string base t

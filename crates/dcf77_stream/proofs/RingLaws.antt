@@ -1,5 +1,5 @@
 -- The ring of a DCF77 reader: what it keeps, fresh and after one symbol more, and that nothing is said where its newest is no gap.
-use mathlib.Core.Bool.{false, and_false}
+use mathlib.Core.Bool.{false, and-false}
 use mathlib.Core.List.{List, [], ◌∷◌, ◌++◌}
 use mathlib.Core.Path.{◌≡◌, refl, sym, ◌∙◌}
 use Prim.Native.Nat.{ℕ, ◌+◌, ◌<◌}
@@ -36,12 +36,12 @@ module _ (p : ℕ) (d : p ≡ 2 → ⊥) where
   no_gap_last [] = ne_eqb p 2 d
   no_gap_last (x ∷ v) =
       let z : length (v ++ (p ∷ [])) ≡ 0 → ⊥ = λ e. omega (arith, length-append v (p ∷ [])) in
-      rw (ne_eqb (length (v ++ (p ∷ []))) 0 z, no_gap_last v) (and_false (ltb x 2))
+      rw (ne_eqb (length (v ++ (p ∷ []))) 0 z, no_gap_last v) (and-false (ltb x 2))
 
   pub unclosed : (v : List ℕ) → between_gaps (v ++ (p ∷ [])) ≡ false
   unfolding between_gaps
   unclosed [] = rw (ne_eqb p 2 d)
-  unclosed (x ∷ v) = rw (no_gap_last v) (and_false (eqb x 2))
+  unclosed (x ∷ v) = rw (no_gap_last v) (and-false (eqb x 2))
 
   unclosed_after : (v : List ℕ) → between_gaps (drop 1 (v ++ (p ∷ []))) ≡ false
   unfolding between_gaps

@@ -1,5 +1,5 @@
 -- What is owed after any stream is the letter's: of the marks since the gap before, closing gap included, and nothing elsewhere.
-use mathlib.Core.Bool.{Bool, true, false, cond, not, ◌&&◌, ◌||◌, and_true, and_false}
+use mathlib.Core.Bool.{Bool, true, false, cond, not, ◌&&◌, ◌||◌, and-true, and-false}
 use mathlib.Core.List.{List, [], ◌∷◌, ◌++◌}
 use mathlib.Core.Path.{◌≡◌, refl, sym, ap, subst, ◌∙◌}
 use Prim.Native.Nat.{ℕ, zero, suc, ◌+◌, ◌-◌, ◌≤◌, ◌<◌}
@@ -57,7 +57,7 @@ unfolding marks_then_gap
 gap_inside [] s h = let some : length s ≡ 0 → ⊥ = λ e. omega arith in rw (ne_eqb (length s) 0 some)
 gap_inside (x ∷ v) s h =
     let some : length (v ++ (2 ∷ s)) ≡ 0 → ⊥ = λ e. omega (arith, length-append v (2 ∷ s)) in
-    rw (ne_eqb (length (v ++ (2 ∷ s))) 0 some, gap_inside v s h) (and_false (ltb x 2))
+    rw (ne_eqb (length (v ++ (2 ∷ s))) 0 some, gap_inside v s h) (and-false (ltb x 2))
 
 marks_closed : (m : List ℕ) → marks_then_gap (m ++ (2 ∷ [])) ≡ all_marks m
 unfolding marks_then_gap all_marks
@@ -116,18 +116,18 @@ module _ (before m : List ℕ) (g : gapless m ≡ true) where
       let b : j < length before = omega (arith, stream_length) in
       let some : 0 < length (m ++ (2 ∷ [])) = omega (arith, length-append m (2 ∷ [])) in
       rw (drop-append-le j before closing (omega arith), drop-cons before j 0 b, gap_inside (drop (suc j) before) (m ++ (2 ∷ [])) some)
-      (and_false (eqb (get_or before j 0) 2)))
+      (and-false (eqb (get_or before j 0) 2)))
 
   outlined_since : (k : ℕ) → outlined (k + 2) (before ++ closing) ≡ (all_marks m && eqb (length m) k)
   outlined_since k = by (eqb (length m) k) refl (ltb k (length m)) refl
     where
       by : (b : Bool) → eqb (length m) k ≡ b → (c : Bool) → ltb k (length m) ≡ c → outlined (k + 2) (before ++ closing) ≡ (all_marks m && b)
-      by true e c d = as_many k (eqb-true (length m) k e) ∙ sym (and_true (all_marks m))
-      by false e true d = fewer k (ltb-true k (length m) d) ∙ sym (and_false (all_marks m))
+      by true e c d = as_many k (eqb-true (length m) k e) ∙ sym (and-true (all_marks m))
+      by false e true d = fewer k (ltb-true k (length m) d) ∙ sym (and-false (all_marks m))
       by false e false d =
           let few = ltb-false k (length m) d in
           let other = eqb-false (length m) k e in
-          more k (omega arith) ∙ sym (and_false (all_marks m))
+          more k (omega arith) ∙ sym (and-false (all_marks m))
 
 -- ---- what is owed
 

@@ -56,7 +56,7 @@ windowed h p = window_push kept filler h p (omega arith)
 
 -- once so many symbols have come, a reader keeps the last of them, whatever it kept before
 pub keeps_last : (reader : PulseReader) → length reader.ring ≡ kept → (symbols : List ℕ) → kept ≤ length symbols → kept_by (fed taken reader symbols) ≡ last_of kept symbols
-keeps_last reader l symbols k = runs.keeps-last kept (omega arith) kept_by taken kept_taken reader symbols (kept-length reader ∙ l) k
+keeps_last reader l symbols k = runs.keeps_last kept (omega arith) kept_by taken kept_taken reader symbols (kept-length reader ∙ l) k
 
 -- what a reader says goes by its own base, which it keeps
 abbrev pub by_its_base : PulseReader → ℕ → Said
@@ -66,7 +66,7 @@ of_base : (base : ℕ) (reader : PulseReader) → reader.base ≡ base → (symb
     → said_by taken by_its_base reader symbols ≡ said_by taken (λ reader p. say_of base (push (kept_by reader) p)) reader symbols
 unfolding taken
 of_base base =
-    runs.said-alike taken by_its_base (λ reader p. say_of base (push (kept_by reader) p)) (λ reader. reader.base ≡ base) (λ reader p h. h)
+    runs.said_alike taken by_its_base (λ reader p. say_of base (push (kept_by reader) p)) (λ reader. reader.base ≡ base) (λ reader p h. h)
     (λ reader p h. ap (λ (b : ℕ). say_of b (push (kept_by reader) p)) h)
 
 module _ (base : ℕ) where
@@ -84,7 +84,7 @@ module _ (base : ℕ) where
       ≡ drop (length h - 1) (said_by taken by_its_base b (h ++ symbols))
   any-two_readers a b e f k l g h m n same symbols =
       rw (of_base base a e (g ++ symbols), of_base base b f (h ++ symbols))
-      (runs.two-readers kept (omega arith) kept_by taken kept_taken (say_of base) a b (kept-length a ∙ k) (kept-length b ∙ l) g h m n same symbols)
+      (runs.two_readers kept (omega arith) kept_by taken kept_taken (say_of base) a b (kept-length a ∙ k) (kept-length b ∙ l) g h m n same symbols)
 
   -- "or last sixty-two symbols for DCF77": from the answer to the last symbol of each on, all is the same
   pub two_readers : (g h : List ℕ) → kept ≤ length g → kept ≤ length h → last_of kept g ≡ last_of kept h → (symbols : List ℕ)

@@ -150,7 +150,7 @@ module _ (base : ℕ) (r : Reading) (coasting : Bool) (position : List ℕ) (roo
           second = f.second;
           date = f.date;
           weekday = weekday_back;
-          offset_good_lem = offset_back;
+          offset_good = offset_back;
           mark_good = mark_back;
           leap = f.leap;
         });

@@ -37,7 +37,7 @@ windowed h p = window_push kept filler h p (omega arith)
 
 -- once so many pulses have come, a reader keeps the last of them, whatever it kept before
 pub keeps_last : (reader : PulseReader) → length reader.ring ≡ kept → (pulses : List ℕ) → kept ≤ length pulses → kept_by (fed taken reader pulses) ≡ last_of kept pulses
-keeps_last reader l pulses k = runs.keeps-last kept (omega arith) kept_by taken kept_taken reader pulses (kept-length reader ∙ l) k
+keeps_last reader l pulses k = runs.keeps_last kept (omega arith) kept_by taken kept_taken reader pulses (kept-length reader ∙ l) k
 
 -- what a reader says goes by its own base, which it keeps
 abbrev pub by_its_base : PulseReader → ℕ → Said
@@ -47,7 +47,7 @@ of_base : (base : ℕ) (reader : PulseReader) → reader.base ≡ base → (puls
     → said_by taken by_its_base reader pulses ≡ said_by taken (λ reader p. say_of base (push (kept_by reader) p)) reader pulses
 unfolding taken
 of_base base =
-    runs.said-alike taken by_its_base (λ reader p. say_of base (push (kept_by reader) p)) (λ reader. reader.base ≡ base) (λ reader p h. h)
+    runs.said_alike taken by_its_base (λ reader p. say_of base (push (kept_by reader) p)) (λ reader. reader.base ≡ base) (λ reader p h. h)
     (λ reader p h. ap (λ (b : ℕ). say_of b (push (kept_by reader) p)) h)
 
 module _ (base : ℕ) where
@@ -65,7 +65,7 @@ module _ (base : ℕ) where
       ≡ drop (length h - 1) (said_by taken by_its_base b (h ++ pulses))
   any-two_readers a b e f k l g h m n same pulses =
       rw (of_base base a e (g ++ pulses), of_base base b f (h ++ pulses))
-      (runs.two-readers kept (omega arith) kept_by taken kept_taken (say_of base) a b (kept-length a ∙ k) (kept-length b ∙ l) g h m n same pulses)
+      (runs.two_readers kept (omega arith) kept_by taken kept_taken (say_of base) a b (kept-length a ∙ k) (kept-length b ∙ l) g h m n same pulses)
 
   -- "So two readers whose last hundred pulses agree .. say the same from then on while they are fed alike": from the answer to the last pulse of each on, all is the same
   pub two_readers : (g h : List ℕ) → kept ≤ length g → kept ≤ length h → last_of kept g ≡ last_of kept h → (pulses : List ℕ)

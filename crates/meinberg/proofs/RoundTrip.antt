@@ -45,7 +45,7 @@ module _ (base : ℕ) (r : Reading) (coasting : Bool) (checked : Checked base r)
         second = checked.second;
         date = checked.date;
         weekday = weekday_said_lem base r coasting checked carried;
-        offset_good_lem = refl;
+        offset_good = refl;
         mark_good = refl;
         leap = checked.leap;
       }

@@ -1,5 +1,5 @@
 -- A minute that is not refused: what its checks tell, the UTC of the minute that it names, and the form that is due.
-use mathlib.Core.Bool.{Bool, true, false, not, ◌&&◌, and_false}
+use mathlib.Core.Bool.{Bool, true, false, not, ◌&&◌, and-false}
 use mathlib.Core.Path.{◌≡◌, refl, sym, ap, ◌∙◌}
 use Prim.Native.Nat.{ℕ, ◌+◌, ◌*◌, ◌≤◌, ◌<◌}
 use native.Mathlib.Omega.{arith}
@@ -133,7 +133,7 @@ closed t d m c = go (same_date t d) refl (eqb m last_minute) refl
   where
     go : (a : Bool) → same_date t d ≡ a → (b : Bool) → eqb m last_minute ≡ b → ((a && leb last_hour m) && (b && closes_with_leap d)) ≡ (a && b)
     go false e b f = refl
-    go true e false f = and_false (leb last_hour m)
+    go true e false f = and-false (leb last_hour m)
     go true e true f =
         let k = eqb-true m last_minute f in
         rw (le-leb last_hour m (omega arith)) (ap closes_with_leap (sym (same_date_lem t d e)) ∙ c)

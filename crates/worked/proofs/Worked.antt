@@ -68,33 +68,33 @@ unfolding cases pinned month_ends places telegrams clock_strings coasting_marks 
     leap_year days_in days_before year_length days_before_year day_of_year day_number weekday_of
     is_month last_day is_day is_date day_before day_after year_after month_up_to in_year month_day
     digit pair tens ones packed exactly from either one_of within beside allowed good_places printable printables
-    day_bad month_bad weekday_wrong strings.weekdayBad strings.faultOf
-    meinberg-layout.layout zones.offset_of zones.summerOf zones.isZone zones.zoneCarried zones.zoneLetter
-    meinberg.qualityOf meinberg.coastingIn meinberg.meaning meinberg.faultIn meinberg.readMeinberg
-    meinberg-writing.announcement meinberg-writing.bytesOf meinberg-writing.notCarried meinberg-writing.writeFault
-    erlangen-layout.layout erlangen-offset.wholeUnits erlangen-offset.unitsOf erlangen-offset.tooFar erlangen-offset.offsetBad
-    erlangen-offset.signed erlangen-offset.offset_of erlangen-offset.isBehind erlangen-offset.minutesOf
-    erlangen.shows erlangen.weekdaySaid erlangen.coastingSaid erlangen.offsetWrong erlangen.markWrong erlangen.reading_of
-    erlangen.faultIn erlangen.readErlangen
-    erlangen-writing.dateBytes erlangen-writing.timeBytes erlangen-writing.offsetBytes erlangen-writing.flagBytes erlangen-writing.bytesOf
-    erlangen-writing.notCarried erlangen-writing.lengthBad erlangen-writing.carried_of erlangen-writing.writeFault
+    day_bad month_bad weekday_wrong strings.weekday_bad strings.fault_of
+    meinberg-layout.layout zones.offset_of zones.summer_of zones.is_zone zones.zone_carried zones.zone_letter
+    meinberg.quality_of meinberg.coasting_in meinberg.meaning meinberg.fault_in meinberg.read_meinberg
+    meinberg-writing.announcement meinberg-writing.bytes_of meinberg-writing.not_carried meinberg-writing.write_fault
+    erlangen-layout.layout erlangen-offset.whole_units erlangen-offset.units_of erlangen-offset.too_far erlangen-offset.offset_bad
+    erlangen-offset.signed erlangen-offset.offset_of erlangen-offset.is_behind erlangen-offset.minutes_of
+    erlangen.shows erlangen.weekday_said erlangen.coasting_said erlangen.offset_wrong erlangen.mark_wrong erlangen.reading_of
+    erlangen.fault_in erlangen.read_erlangen
+    erlangen-writing.date_bytes erlangen-writing.time_bytes erlangen-writing.offset_bytes erlangen-writing.flag_bytes erlangen-writing.bytes_of
+    erlangen-writing.not_carried erlangen-writing.length_bad erlangen-writing.carried_of erlangen-writing.write_fault
     group_of weight_of pulse_allowed pulse_of digit_of pulse_for row good_pulses share_of sum_of sums_of up_to ones_from lies_within ones_of
-    frame_pulses frame.secondIn frame.minuteIn frame.hourIn frame.dayIn frame.digitsIn frame.halvesIn frame.addedIn frame.yearIn
-    frame.monthDayIn frame.reading_of frame.dayBad frame.secondOfDayWrong frame.offsetBad
-    frame-faults.isOdd frame-faults.fieldsFault frame-faults.valuesFault frame-faults.faultIn frame-faults.readFrame
-    odd_quarter frame-writing.groups_of frame-writing.values_of frame-writing.parityOf frame-writing.frame_of frame-writing.carried_of frame-writing.writeFault
-    shared_marks last_marks minute_marks minute-zones.offsetIn minute-zones.zoneOf minute-zones.zoneBad
-    forms.length_of forms.last_of forms.dueLong
-    minute.isLong minute.tableFor minute.says minute.reading_of minute.lengthBad minute.digitFault minute.odd minute.parityFault
-    minute.fieldFault minute.ruleFault minute.saidFault minute.readFault minute.readDcf77
-    minute-writing.plain_of minute-writing.evened minute-writing.withParity minute-writing.values_of minute-writing.bytesOf
-    minute-writing.headBad minute-writing.checkedWith minute-writing.notCarried minute-writing.carryFault
-    minute-writing.needed minute-writing.roomFault minute-writing.writeFault
+    frame_pulses frame.second_in frame.minute_in frame.hour_in frame.day_in frame.digits_in frame.halves_in frame.added_in frame.year_in
+    frame.month_day_in frame.reading_of frame.day_bad frame.second_of_day_wrong frame.offset_bad
+    frame-faults.is_odd frame-faults.fields_fault frame-faults.values_fault frame-faults.fault_in frame-faults.read_frame
+    odd_quarter frame-writing.groups_of frame-writing.values_of frame-writing.parity_of frame-writing.frame_of frame-writing.carried_of frame-writing.write_fault
+    shared_marks last_marks minute_marks minute-zones.offset_in minute-zones.zone_of minute-zones.zone_bad
+    forms.length_of forms.last_of forms.due_long
+    minute.is_long minute.table_for minute.says minute.reading_of minute.length_bad minute.digit_fault minute.odd minute.parity_fault
+    minute.field_fault minute.rule_fault minute.said_fault minute.read_fault minute.read_dcf77
+    minute-writing.plain_of minute-writing.evened minute-writing.with_parity minute-writing.values_of minute-writing.bytes_of
+    minute-writing.head_bad minute-writing.checked_with minute-writing.not_carried minute-writing.carry_fault
+    minute-writing.needed minute-writing.room_fault minute-writing.write_fault
     read_string position_of pending_of quality_by graded carried_by bridge_answer bridge_filled
     minute_after within_day local_minutes shown_at local_at
     days_until change_date changed is_summer hour_before announces_change
-    rules.weekdayBad rules.dateBad rules.tooLate rules.setDayBad rules.dayIn rules.crossed rules.ruleBad
+    rules.weekday_bad rules.date_bad rules.too_late rules.set_day_bad rules.day_in rules.crossed rules.rule_bad
     utc_sent named_minute named_summer same_date announces_leap telegram_reading
-    sending.timeBad sending.leapDateBad sending.outside sending.faultWith sending.sendFault sending.telegramFault
+    sending.time_bad sending.leap_date_bad sending.outside sending.fault_with sending.send_fault sending.telegram_fault
     body_length read_body record_at next_at records_from decimal digits_before line_at lines_of body_text listing
 worked = (refl, refl, refl, refl, refl, refl, refl, refl, refl)

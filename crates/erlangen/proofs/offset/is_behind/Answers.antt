@@ -1,0 +1,8 @@
+-- `erlangen::offset::is_behind` meets its contract. Assumes nothing.
+use Rattle.erlangen.specs.Offset.{is_behind}
+use borrow.Author.Rules.{rules}
+use Rattle.erlangen.proofs.offset.is_behind.Goals as goal
+
+pub returns : goal.returns
+unfolding is_behind
+returns c = rw c.west.ensures.value
