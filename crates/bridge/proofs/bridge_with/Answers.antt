@@ -26,8 +26,7 @@ use Rattle.bridge.specs.declared.Coasting.{Coasting}
 use Rattle.bridge.specs.Bridge.{carried_by, bridge_answer, bridge_filled}
 use Rattle.bridge.proofs.CarriedLaws.{quarter-carried}
 use Rattle.bridge.proofs.BridgeLaws.{carried_checked, frame_carries, too-short-first, string-refusal-unchanged, odd-not-carried, accepted-written}
-use Rattle.bridge.proofs.bridge_with.Statement.{statement}
-use Rattle.bridge.proofs.bridge_with.Tie as tie
+use Rattle.bridge.proofs.bridge_with.Goals as goal
 
 module _ (base : ℕ) (s : List ℕ) (way : Coasting) (out : List ℕ) where
   -- an answer and a buffer are those of the definitions
@@ -64,86 +63,24 @@ module _ (base : ℕ) (s : List ℕ) (way : Coasting) (out : List ℕ) where
             let f = written_frame base c out good in
             (answer ∙ rw q (f.0 ∙ sym l.0), bytes ∙ rw q (f.1 ∙ sym l.1))
 
-refusal-of-requires : tie.Need-refusal-of-requires
-refusal-of-requires c κs = search rules
+pub returns-then-out-lt-LENGTH : goal.returns-then-out-lt-LENGTH
+returns-then-out-lt-LENGTH c =
+    let both = let a = c.args in
+    too_short _ a.s.now a.way a.out.now c.refusal_of.result c.refuse.result c.refuse.new.out (omega arith)
+    c.refusal_of.ensures c.refuse.ensures.value c.refuse.ensures.out_unchanged in
+    record { value = both.0; out_after = both.1 }
 
-refuse-requires : tie.Need-refuse-requires
-refuse-requires c κs = search rules
+pub returns-in-Time : goal.returns-in-Time
+returns-in-Time c =
+    let both = let a = c.args in
+    wrote _ a.s.now a.way a.out.now c.if-out-lt-LENGTH.false c.whichever-answer.result (c.whichever-answer.ensures ∙ ap whichever c.read.ensures)
+    c.in-Time.r c.carried_by.result c.in-Time.coasting c.write.result c.write.new.out c.in-Time.is c.carried_by.ensures
+    c.write.ensures.value c.write.ensures.out_after in
+    record { value = both.0; out_after = both.1 }
 
-same_length : tie.Need-same-length
-same_length c = search rules
-
-returns : tie.Need-returns
-returns c =
-    let w = c.before.before in
-    let n = w.before.before in
-    let a = n.before.before.before.before.args in
-    too_short _ a.s.now a.way a.out.now n.refusal-of.result w.refuse.result w.refuse.new.1.0 (omega arith)
-    n.refusal-of.ensures w.refuse.ensures.0 w.refuse.ensures.1
-
-read-requires : tie.Need-read-requires
-read-requires c κs = search rules
-
-whichever-requires : tie.Need-whichever-requires
-whichever-requires c κs = search rules
-
-enum-known-answer : tie.Need-enum-known-answer
-enum-known-answer c = search rules
-
-carried-by-requires : tie.Need-carried-by-requires
-carried-by-requires c κs = search rules
-
-write-requires : tie.Need-write-requires
-write-requires c κs = search rules
-
-enum-known-answer-2 : tie.Need-enum-known-answer-2
-enum-known-answer-2 c = search rules
-
-refuse-requires-2 : tie.Need-refuse-requires-2
-refuse-requires-2 c κs = search rules
-
-same-length-2 : tie.Need-same-length-2
-same-length-2 c = search rules
-
-returns-2 : tie.Need-returns-2
-returns-2 c =
-    let w = c.before.before in
-    let p = w.before.before in
-    let k = p.before.before in
-    let t = k.before.before in
-    let a = t.before.before.before.before.before.args in
-    wrote _ a.s.now a.way a.out.now t.before.before.if1.false t.whichever.result (t.whichever.ensures ∙ ap whichever t.before.read.ensures)
-    k.answer.given.0.0 p.carried-by.result k.answer.given.0.1.0 w.write.result w.write.new.1.1.0 k.answer.given.1 p.carried-by.ensures
-    w.write.ensures.0 w.write.ensures.1
-
-same-length-3 : tie.Need-same-length-3
-same-length-3 c = search rules
-
-returns-3 : tie.Need-returns-3
-returns-3 c =
-    let w = c.before.before in
-    let k = w.before.before.before in
-    let t = k.before.before in
-    let a = t.before.before.before.before.before.args in
-    refused _ a.s.now a.way a.out.now t.before.before.if1.false t.whichever.result (t.whichever.ensures ∙ ap whichever t.before.read.ensures)
-    k.answer2.given.0.0 w.refuse2.result w.refuse2.new.1.0 k.answer2.given.1 w.refuse2.ensures.0 w.refuse2.ensures.1
-
-pub bridge_with_spec : {M : Type 1} → statement M
-bridge_with_spec =
-    tie.close
-    (tie.spec
-    refusal-of-requires
-    refuse-requires
-    same_length
-    returns
-    read-requires
-    whichever-requires
-    enum-known-answer
-    carried-by-requires
-    write-requires
-    enum-known-answer-2
-    refuse-requires-2
-    same-length-2
-    returns-2
-    same-length-3
-    returns-3)
+pub returns-in-No : goal.returns-in-No
+returns-in-No c =
+    let both = let a = c.args in
+    refused _ a.s.now a.way a.out.now c.if-out-lt-LENGTH.false c.whichever-answer.result (c.whichever-answer.ensures ∙ ap whichever c.read.ensures)
+    c.in-No.refusal c.refuse-in-No.result c.refuse-in-No.new.out c.in-No.is c.refuse-in-No.ensures.value c.refuse-in-No.ensures.out_unchanged in
+    record { value = both.0; out_after = both.1 }

@@ -1,0 +1,12 @@
+-- `bridge::whichever` meets its contract. Assumes nothing.
+use borrow.Author.Rules.{rules}
+use Rattle.bridge.proofs.whichever.Goals as goal
+
+pub returns-in-Meinberg : goal.returns-in-Meinberg
+returns-in-Meinberg c = rw c.in-Meinberg.is
+
+pub returns-in-Erlangen : goal.returns-in-Erlangen
+returns-in-Erlangen c = rw c.in-Erlangen.is
+
+pub returns-in-No : goal.returns-in-No
+returns-in-No c = rw c.in-No.is
