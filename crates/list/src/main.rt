@@ -8,9 +8,10 @@ ghost use Rattle.listing.specs.Listing.{largest_book, room_for_any};
 ghost use Rattle.list.specs.Argument.{base_named, base_for};
 ghost use Rattle.list.specs.Input.{Within};
 
-use libc::{STDERR_FILENO, STDIN_FILENO, STDOUT_FILENO};
 use listing::{LARGEST_BOOK, ROOM};
 use reading::Written;
+use std::env::{Env, FillError};
+use std::io::Read;
 
 // What came of reading: how many bytes, or that a read failed.
 #[derive(Clone, Copy)]
@@ -18,6 +19,11 @@ enum Input {
     Bytes(usize),
     Failed,
 }
+
+// The numbers of the standard output and of the standard error.
+const OUTPUT: i32 = 1;
+
+const ERRORS: i32 = 2;
 
 // The largest book that is listed, and a byte more, which tells a book that is too long.
 const SPACE: usize = LARGEST_BOOK + 1;
@@ -62,23 +68,24 @@ fn base_for(words: usize, text: &[u8]) -> u16
 
 // The base that the program is started with. An argument that is longer than the space counts as an empty one, which names none
 // either; those after the first are not looked at.
-fn base_given() -> u16 {
+fn base_given<E: Env>(rt: &E) -> u16 {
     let mut space = [0u8; 5];
-    let n = os::arg(1, &mut space);
-    base_for(os::arg_count(), &space[..n])
+    match rt.arg(1, &mut space) {
+        Ok(n) => base_for(2, &space[..n]),
+        Err(FillError::NotPresent) => base_for(1, &space[..0]),
+        Err(FillError::TooLong) => base_for(2, &space[..0]),
+    }
 }
 
 // Reads until the space is full or the input ends. A read may give fewer bytes than it was asked for.
-fn read_book(space: &mut [u8]) -> Input
+fn read_book<R: Read>(input: &mut R, space: &mut [u8]) -> Input
     ensures { Within result space.new }
 {
     let mut done = 0;
     while done < space.len() {
-        let got = libc::read(STDIN_FILENO, &mut space[done..]);
-        if got < 0 {
+        let Ok(more) = input.read(&mut space[done..]) else {
             return Input::Failed;
-        }
-        let more = io::count(got, &space[done..]);
+        };
         if more == 0 {
             return Input::Bytes(done);
         }
@@ -88,8 +95,8 @@ fn read_book(space: &mut [u8]) -> Input
 }
 
 fn write_out(text: &[u8]) {
-    if !io::write_all(STDOUT_FILENO, text) {
-        io::write_all(STDERR_FILENO, b"list: standard output cannot be written\n");
+    if !io::write_all(OUTPUT, text) {
+        io::write_all(ERRORS, b"list: standard output cannot be written\n");
     }
 }
 
@@ -102,18 +109,19 @@ fn write_listing(base: u16, book: &[u8], page: &mut [u8])
     }
 }
 
-fn list_input(base: u16, space: &mut [u8], page: &mut [u8])
+fn list_input<R: Read>(input: &mut R, base: u16, space: &mut [u8], page: &mut [u8])
     requires { room_for_any ≤ length page.old }
 {
-    if let Input::Bytes(n) = read_book(space) {
+    if let Input::Bytes(n) = read_book(input, space) {
         write_listing(base, &space[..n], page);
         return;
     }
-    io::write_all(STDERR_FILENO, b"list: standard input cannot be read\n");
+    io::write_all(ERRORS, b"list: standard input cannot be read\n");
 }
 
-fn main() {
+fn main(rt: HostRuntime) {
     let mut space = space_for_book();
     let mut page = space_for_listing();
-    list_input(base_given(), &mut space, &mut page);
+    let mut input = rt.stdin();
+    list_input(&mut input, base_given(&rt), &mut space, &mut page);
 }

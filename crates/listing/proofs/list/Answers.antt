@@ -11,8 +11,7 @@ use Rattle.wire.proofs.StoreLaws.{stored_first}
 use Rattle.listing.specs.Listing.{header, body_text, listing, room_for_any}
 use Rattle.listing.proofs.PutLaws.{then-room, both_end, both-held}
 use Rattle.listing.proofs.RoomLaws.{listing_fits, too_small, large_enough}
-use Rattle.listing.proofs.list.Statement.{statement}
-use Rattle.listing.proofs.list.Tie as tie
+use Rattle.listing.proofs.list.Goals as goal
 
 -- a buffer that holds every listing has room for the header and the lines
 both_room : (base : ℕ) (b l : List ℕ) → room_for_any ≤ length l → 0 + length (header ++ body_text base b) ≤ length l
@@ -29,54 +28,35 @@ counted : (base : ℕ) (b : List ℕ) (r : ℕ) → r ≡ 0 + length (header ++ 
 unfolding listing
 counted base b r e = omega (arith, e)
 
-refusal-of-requires : tie.Need-refusal-of-requires
-refusal-of-requires c κs = search rules
+pub returns-then-out-lt-ROOM : goal.returns-then-out-lt-ROOM
+returns-then-out-lt-ROOM c =
+    let s = c.args in
+    let h : length s.out.now < room_for_any = omega arith in record {
+      value = rw (too_small (length s.out.now) h) (ap No c.refusal_of.ensures);
+      out_after = rw (too_small (length s.out.now) h) refl;
+    }
 
-returns : tie.Need-returns
-returns c =
-    let s = c.before.before.before.before.args in
-    let h : length s.out.now < room_for_any = omega arith in
-    rw (too_small (length s.out.now) h) (ap No c.refusal-of.ensures, refl)
-
-slice-aggregate-put : tie.Need-slice-aggregate-put
-slice-aggregate-put c = search rules
-
-put-requires : tie.Need-put-requires
-put-requires c κs = search rules
-
-put-body-requires : tie.Need-put-body-requires
-put-body-requires c κs =
-    let s = c.before.before.before.before.before.before.before.before.before.args in
+pub put_body-end-requires : goal.put_body-end-requires
+put_body-end-requires c =
+    let s = c.args in
     let h : room_for_any ≤ length s.out.now = omega arith in
-    let p = c.before.before.before.put.ensures in
-    then-room 0 header (body_text s.base s.book.now) s.out.now (both_room s.base s.book.now s.out.now h) _ _ p.0 p.1
+    let p = c.put-start.ensures in
+    then-room 0 header (body_text s.base s.book.now) s.out.now (both_room s.base s.book.now s.out.now h) _ _ p.value p.out_after
 
-same_length : tie.Need-same-length
-same_length c = search rules
-
-returns-2 : tie.Need-returns-2
-returns-2 c =
-    let s = c.before.before.before.before.before.before.before.before.before.before.before.before.args in
+pub returns : goal.returns
+returns c =
+    let s = c.args in
     let b = s.book.now in
     let l = s.out.now in
     let h : room_for_any ≤ length l = omega arith in
     let base = s.base in
     let room = both_room base b l h in
-    let p = c.before.before.before.before.before.before.put.ensures in
-    let q = c.before.before.put-body.ensures in
-    rw (large_enough (length l) h) (
-      ap Length (counted base b _ (both_end 0 header (body_text base b) l room _ _ p.0 p.1 _ q.0)),
-      whole base b l _ h (both-held 0 header (body_text base b) l room _ _ p.0 p.1 _ q.1),
-    )
-
-pub list_spec : {M : Type 1} → statement M
-list_spec =
-    tie.close
-    (tie.spec
-    refusal-of-requires
-    returns
-    slice-aggregate-put
-    put-requires
-    put-body-requires
-    same_length
-    returns-2)
+    let p = c.put-start.ensures in
+    let q = c.put_body-end.ensures in record {
+      value =
+          rw (large_enough (length l) h)
+          (ap Length (counted base b _ (both_end 0 header (body_text base b) l room _ _ p.value p.out_after _ q.value)));
+      out_after =
+          rw (large_enough (length l) h)
+          (whole base b l _ h (both-held 0 header (body_text base b) l room _ _ p.value p.out_after _ q.out_after));
+    }
