@@ -11,7 +11,7 @@ ghost use Rattle.list.specs.Input.{Within};
 use listing::{LARGEST_BOOK, ROOM};
 use reading::Written;
 use std::env::{Env, FillError};
-use std::io::Read;
+use std::io::{Read, Stdin};
 
 // What came of reading: how many bytes, or that a read failed.
 #[derive(Clone, Copy)]
@@ -78,7 +78,7 @@ fn base_given<E: Env>(rt: &E) -> u16 {
 }
 
 // Reads until the space is full or the input ends. A read may give fewer bytes than it was asked for.
-fn read_book<R: Read>(input: &mut R, space: &mut [u8]) -> Input
+fn read_book(input: &mut Stdin, space: &mut [u8]) -> Input
     ensures { Within result space.new }
 {
     let mut done = 0;
@@ -109,7 +109,7 @@ fn write_listing(base: u16, book: &[u8], page: &mut [u8])
     }
 }
 
-fn list_input<R: Read>(input: &mut R, base: u16, space: &mut [u8], page: &mut [u8])
+fn list_input(input: &mut Stdin, base: u16, space: &mut [u8], page: &mut [u8])
     requires { room_for_any ≤ length page.old }
 {
     if let Input::Bytes(n) = read_book(input, space) {
