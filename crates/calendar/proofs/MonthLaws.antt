@@ -1,19 +1,17 @@
 -- The months of a year: how the days before them add up, and which month and day are in the calendar.
-use mathlib.Core.Bool.{Bool, true, false, cond, ◌&&◌}
-use mathlib.Core.List.{List, [], ◌∷◌}
-use mathlib.Core.Path.{◌≡◌, refl, sym, ap, subst, ◌∙◌}
+use mathlib.Core.Bool.{Bool, true, false, cond}
+use mathlib.Core.List.{[], ◌∷◌}
+use mathlib.Core.Path.{◌≡◌, refl, ap, subst, ◌∙◌}
 use Prim.Native.Nat.{ℕ, zero, suc, ◌+◌, ◌-◌, ◌*◌, ◌/◌, ◌≤◌, ◌<◌}
 use native.Mathlib.Nat.{not-suc-le-zero}
 use native.Mathlib.Decide.{ℕ_discrete, dec_lt}
 use native.Mathlib.Omega.{arith}
 use lib.Dec.{T, eqb, eqb→eq, leb, leb→le, le→leb}
 use lib.ListN.{get_or-eq_default}
-use borrow.Author.Tests.{le-leb, lt-leb, leb-true}
 use Rattle.laws.specs.Tests.{below}
 use Rattle.laws.proofs.Tested.{at}
 use Rattle.laws.proofs.Bools.{where_so, then}
-use Rattle.calendar.specs.declared.Date.{Date}
-use Rattle.calendar.specs.Calendar.{leap_year, days_in, days_before, year_length, is_month, last_day, is_day, is_date}
+use Rattle.calendar.specs.Calendar.{days_in, days_before, year_length}
 
 -- ---- the days before a month
 

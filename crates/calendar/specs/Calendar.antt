@@ -1,6 +1,6 @@
 -- The calendar, by counting days: leap years, months, the number of a day, its weekday, the day after and the day before.
 -- It is today's calendar carried back to the year 0, so that no request has to move where the counting starts.
-use Rattle.std.specs.Prelude.{Bool, true, false, not, cond, ◌&&◌, ◌||◌, List, [], ◌∷◌, ℕ, zero, suc, ◌+◌, ◌-◌, ◌%◌, eqb, leb, ltb, get_or}
+use Rattle.std.specs.Prelude.{Bool, not, cond, ◌&&◌, ◌||◌, [], ◌∷◌, ℕ, zero, suc, ◌+◌, ◌-◌, ◌%◌, eqb, leb, ltb, get_or}
 use Rattle.calendar.specs.declared.Date.{Date}
 use Rattle.calendar.specs.declared.MonthDay.{MonthDay}
 

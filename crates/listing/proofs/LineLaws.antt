@@ -2,12 +2,11 @@
 use mathlib.Core.List.{List, [], ◌++◌}
 use mathlib.Core.Path.{◌≡◌, refl, sym, ap, ◌∙◌}
 use Prim.Native.Nat.{ℕ, ◌+◌, ◌≤◌, ◌<◌}
-use native.Mathlib.Nat.{add-zero}
 use native.Mathlib.Omega.{arith}
 use lib.ListN.{length}
 use Rattle.wire.specs.Put.{stored}
 use Rattle.wire.proofs.StoreLaws.{stored-length, stored_nothing}
-use Rattle.book.specs.Book.{record_at, next_at, records_from, records}
+use Rattle.book.specs.Book.{record_at, next_at, records_from}
 use Rattle.book.specs.declared.Stamping.{Stamping}
 use Rattle.book.specs.Stamps.{stamping_of}
 use Rattle.book.proofs.BookLaws.{records_step, records_end}

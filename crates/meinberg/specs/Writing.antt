@@ -10,22 +10,7 @@ use Rattle.reading.specs.Universal.{date_of}
 use Rattle.reading.specs.Checks.{checked_of}
 use Rattle.reading.specs.Writing.{and_then}
 use Rattle.wire.specs.Digits.{tens, ones}
-use Rattle.meinberg.specs.Layout.{
-  text_length,
-  stx,
-  etx,
-  space,
-  bang,
-  hash,
-  star,
-  dot,
-  colon,
-  semicolon,
-  letter_a,
-  letter_d,
-  letter_t,
-  letter_u,
-}
+use Rattle.meinberg.specs.Layout.{text_length, stx, etx, bang, hash, star, dot, colon, semicolon, letter_a, letter_d, letter_t, letter_u}
 use Rattle.meinberg.specs.Zones.{zone_carried, zone_letter}
 pub use Rattle.strings.specs.Letters.{mark}
 

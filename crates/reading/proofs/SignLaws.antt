@@ -4,7 +4,6 @@ use mathlib.Core.Bool.{true}
 use mathlib.Core.Path.{◌≡◌, refl, ap, ◌∙◌}
 use Prim.Native.Nat.{ℕ, suc, ◌+◌, ◌-◌, ◌*◌, ◌≤◌, ◌<◌}
 use native.Mathlib.Omega.{arith}
-use lib.Dec.{ltb}
 use lib.IntN.{ℤ, pos, negsuc, sub_ℕ}
 use borrow.Author.Tests.{lt-ltb, le-ltb}
 use Rattle.calendar.specs.declared.Date.{Date}
@@ -13,7 +12,7 @@ use Rattle.calendar.proofs.DateLaws.{Real, real, number_is, number_top, same_num
 use Rattle.calendar.proofs.WeekdayLaws.{start_number}
 use Rattle.reading.specs.declared.Reading.{Reading}
 use Rattle.reading.specs.declared.Verdict.TheVariants.{Good}
-use Rattle.reading.specs.Universal.{day, date_of, utc_of}
+use Rattle.reading.specs.Universal.{date_of, utc_of}
 use Rattle.reading.specs.Checks.{checked_of}
 use Rattle.reading.specs.Stamps.{day_zero, stamp_is, stamp_of}
 use Rattle.reading.proofs.YearLaws.{starts_there, hundred}

@@ -1,5 +1,5 @@
 -- The two senses of offset, and which offsets a reading may have.
-use Rattle.std.specs.Prelude.{Bool, cond, ◌&&◌, ℕ, zero, suc, leb, ltb, ℤ, pos, negsuc, neg_ℤ}
+use Rattle.std.specs.Prelude.{Bool, cond, ◌&&◌, ℕ, suc, leb, ltb, ℤ, pos, negsuc, neg_ℤ}
 
 -- L9: "The reading's offset becomes quarter hours, -48..+56": its unit in minutes, and how far it goes west and east of UTC
 abbrev pub unit : ℕ

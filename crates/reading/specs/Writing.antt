@@ -1,6 +1,5 @@
 -- What every writer answers, and what the lent buffer then holds.
 use Rattle.std.specs.Prelude.{List, ◌++◌, ℕ, length, drop}
-use Rattle.reading.specs.declared.Fault.{Fault}
 use Rattle.reading.specs.declared.Verdict.{Verdict}
 use Rattle.reading.specs.declared.Verdict.TheVariants.{Good, Bad}
 use Rattle.reading.specs.declared.Written.{Written}

@@ -1,5 +1,5 @@
 -- What the worked cases are about: readings, rows of pulses told by their ones, and strings byte by byte.
-use Rattle.std.specs.Prelude.{Bool, true, false, cond, ◌||◌, List, [], ◌∷◌, ◌++◌, ℕ, zero, suc, ◌+◌, ◌-◌, ◌/◌, ◌%◌, eqb, ℤ, pos, neg_ℤ, get_or, set, replicate}
+use Rattle.std.specs.Prelude.{Bool, false, cond, ◌||◌, List, [], ◌∷◌, ◌++◌, ℕ, zero, suc, ◌+◌, ◌-◌, ◌/◌, ◌%◌, eqb, ℤ, pos, neg_ℤ, get_or, set, replicate}
 use Rattle.laws.specs.Tests.{among}
 use Rattle.reading.specs.declared.Reading.{Reading}
 

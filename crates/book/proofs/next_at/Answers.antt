@@ -1,7 +1,6 @@
 -- `book::next_at` meets its contract: one law of `PlaceLaws` for each `return`. Assumes nothing.
 use mathlib.Core.Path.{sym, ◌∙◌}
 use Rattle.book.proofs.PlaceLaws.{from_past, from_unknown, from_cut, from_whole}
-use borrow.Author.Rules.{rules}
 use Rattle.book.proofs.next_at.Goals as goal
 
 pub returns-then-book-at : goal.returns-then-book-at

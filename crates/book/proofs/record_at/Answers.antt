@@ -1,7 +1,6 @@
 -- `book::record_at` meets its contract: one law of `PlaceLaws` for each `return`. Assumes nothing.
 use mathlib.Core.Path.{sym, ◌∙◌}
 use Rattle.book.proofs.PlaceLaws.{over_there, unknown_there, cut_there, whole_there}
-use borrow.Author.Rules.{rules}
 use Rattle.book.proofs.record_at.Goals as goal
 
 pub returns-then-book-at : goal.returns-then-book-at

@@ -4,7 +4,6 @@ use mathlib.Core.Path.{ap, ◌∙◌}
 use native.Mathlib.Nat.{add-sub_cancel_left}
 use lib.ListN.{take, drop}
 use Rattle.book.specs.Body.{read_body}
-use borrow.Author.Rules.{rules}
 use Rattle.book.proofs.said_from.Goals as goal
 
 pub returns : goal.returns

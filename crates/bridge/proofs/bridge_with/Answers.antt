@@ -1,6 +1,5 @@
 -- `bridge::bridge_with` meets its contract: the writer of the frame, which could refuse a reading, refuses an odd quarter alone of
 -- those that a string says. Assumes nothing.
-use borrow.Author.Rules.{rules}
 use mathlib.Core.Bool.{Bool, true, false}
 use mathlib.Core.List.{List}
 use mathlib.Core.Path.{◌≡◌, refl, sym, ap, ◌∙◌}

@@ -1,5 +1,4 @@
 -- `bridge::carried_by` meets its contract. Assumes nothing.
-use borrow.Author.Rules.{rules}
 use Rattle.bridge.specs.Bridge.{pending_of, graded, carried_by}
 use Rattle.bridge.proofs.carried_by.Goals as goal
 

@@ -1,5 +1,4 @@
 -- `bridge::leap_pending` meets its contract. Assumes nothing.
-use borrow.Author.Rules.{rules}
 use mathlib.Core.Bool.{Bool, true, ◌&&◌}
 use mathlib.Core.Path.{◌≡◌}
 use Rattle.bridge.proofs.leap_pending.Goals as goal

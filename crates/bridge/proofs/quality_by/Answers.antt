@@ -1,5 +1,4 @@
 -- `bridge::quality_by` meets its contract. Assumes nothing.
-use borrow.Author.Rules.{rules}
 use Rattle.bridge.specs.Bridge.{quality_by}
 use Rattle.bridge.proofs.quality_by.Goals as goal
 

@@ -1,5 +1,4 @@
 -- `bridge::whichever` meets its contract. Assumes nothing.
-use borrow.Author.Rules.{rules}
 use Rattle.bridge.proofs.whichever.Goals as goal
 
 pub returns-in-Meinberg : goal.returns-in-Meinberg

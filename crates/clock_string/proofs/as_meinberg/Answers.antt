@@ -1,5 +1,4 @@
 -- `clock_string::as_meinberg` meets its contract. Assumes nothing.
-use borrow.Author.Rules.{rules}
 use Rattle.clock_string.proofs.as_meinberg.Goals as goal
 
 pub returns-in-Time : goal.returns-in-Time

@@ -3,7 +3,6 @@
 use mathlib.Core.Path.{◌≡◌, sym, ◌∙◌}
 use native.Mathlib.Omega.{arith}
 use lib.ListN.{length}
-use borrow.Author.Rules.{rules}
 use Rattle.erlangen.specs.Layout.{size}
 use Rattle.erlangen.proofs.Promises.{accepted-length}
 use Rattle.clock_string.proofs.PositionLaws.{no_part_of_32, no_part_of_refused, part_of_accepted}

@@ -1,5 +1,4 @@
 -- `clock_string::read` meets its contract: what both strings are refused for first, then the length picks the string. Assumes nothing.
-use borrow.Author.Rules.{rules}
 use mathlib.Core.Bool.{true}
 use mathlib.Core.Logic.{◌⊎◌}
 use mathlib.Core.Path.{◌≡◌, sym, ◌∙◌}

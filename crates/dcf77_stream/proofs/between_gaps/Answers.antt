@@ -1,6 +1,5 @@
 -- `dcf77_stream::between_gaps` meets its contract. Assumes nothing.
 use native.Mathlib.Omega.{arith}
-use borrow.Author.Rules.{rules}
 use mathlib.Core.Path.{◌∙◌}
 use Rattle.dcf77_stream.proofs.SymbolLaws.{gap_there, no_gap_there}
 use Rattle.dcf77_stream.proofs.between_gaps.Goals as goal

@@ -1,10 +1,8 @@
 -- `dcf77_stream::marks_then_gap` meets its contract. The loop's invariant: what is left ends in a gap exactly where the whole does. Assumes nothing.
-use native.Mathlib.Omega.{arith}
-use mathlib.Core.Path.{◌≡◌, refl, sym, ◌∙◌}
+use mathlib.Core.Path.{◌≡◌}
 use Prim.Native.Nat.{◌<◌, ◌-◌}
 use lib.ListN.{length, drop}
 use Rattle.dcf77_stream.specs.Said.{marks_then_gap}
-use Rattle.dcf77_stream.proofs.SymbolLaws.{mark_on, mark_stops, gap_last, no_symbols}
 use Rattle.dcf77_stream.proofs.marks_then_gap.Given as goal
 
 abbrev pub invariant-loop-i : goal.invariant-loop-i

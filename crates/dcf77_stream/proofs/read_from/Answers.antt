@@ -1,5 +1,4 @@
 -- `dcf77_stream::read_from` meets its contract. Assumes nothing.
-use borrow.Author.Rules.{rules}
 use mathlib.Core.Path.{ap, ◌∙◌}
 use Rattle.dcf77.specs.Reader.{read_dcf77}
 use Rattle.dcf77_stream.specs.Said.{said_of}

@@ -1,5 +1,4 @@
 -- `dcf77_stream::said_of` meets its contract. Assumes nothing.
-use borrow.Author.Rules.{rules}
 use mathlib.Core.Path.{sym, ap}
 use Rattle.dcf77_stream.specs.Said.{said_of}
 use Rattle.dcf77_stream.proofs.said_of.Goals as goal

@@ -1,5 +1,4 @@
 -- `dcf77_table::scanned` meets its contract: the tables that it lends are the paper's. Assumes nothing.
-use borrow.Author.Rules.{rules}
 use Rattle.dcf77_table.specs.Table.{shared_marks, last_marks, minute_marks}
 use Rattle.dcf77_table.proofs.scanned.Goals as goal
 

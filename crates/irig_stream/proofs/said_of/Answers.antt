@@ -1,5 +1,4 @@
 -- `irig_stream::said_of` meets its contract. Assumes nothing.
-use borrow.Author.Rules.{rules}
 use mathlib.Core.Path.{sym, ap}
 use Rattle.irig_stream.specs.Said.{said_of}
 use Rattle.irig_stream.proofs.said_of.Goals as goal

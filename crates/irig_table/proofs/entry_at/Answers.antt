@@ -1,5 +1,4 @@
 -- `irig_table::entry_at` meets its contract. Assumes nothing.
-use borrow.Author.Rules.{rules}
 use mathlib.Core.Path.{refl}
 use Rattle.irig_table.specs.Table.{frame_pulses}
 use Rattle.irig_table.proofs.PaperLaws.{beyond_frame}

@@ -1,5 +1,4 @@
 -- `irig_table::field_of` meets its contract. Assumes nothing.
-use borrow.Author.Rules.{rules}
 use mathlib.Core.Path.{refl}
 use Rattle.irig_table.specs.Paper.{field_of}
 use Rattle.irig_table.proofs.PaperLaws.{beyond_fields}

@@ -1,5 +1,4 @@
 -- `irig_table::outlined` meets its contract: the table that it lends is the paper's. Assumes nothing.
-use borrow.Author.Rules.{rules}
 use Rattle.irig_table.specs.Table.{frame_pulses}
 use Rattle.irig_table.proofs.outlined.Goals as goal
 

@@ -1,5 +1,4 @@
 -- `irig_table::pulse_at` meets its contract. Assumes nothing.
-use borrow.Author.Rules.{rules}
 use native.Mathlib.Omega.{arith}
 use native.Mathlib.Nat.{mul-le-mul_right}
 use Rattle.irig_table.specs.Paper.{pulse_at}

@@ -1,5 +1,4 @@
 -- `list::base_for` meets its contract: without an argument the usual base. Assumes nothing.
-use borrow.Author.Rules.{rules}
 use borrow.Author.Tests.{lt-ltb, le-ltb}
 use Rattle.list.specs.Argument.{base_for}
 use Rattle.list.proofs.base_for.Goals as goal

@@ -1,5 +1,4 @@
 -- `list::base_named` meets its contract: the length, then the four bytes of each base. Assumes nothing.
-use borrow.Author.Rules.{rules}
 use borrow.Author.Tests.{eq-eqb, ne_eqb}
 use Rattle.list.specs.Argument.{four_bytes, base_named}
 use Rattle.list.proofs.base_named.Goals as goal

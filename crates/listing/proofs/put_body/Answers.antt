@@ -1,9 +1,6 @@
 -- `listing::put_body` meets its contract: the lines of a book that is not too long, with a base; else the line that says what is wrong with
 -- the whole. Assumes nothing.
 use native.Mathlib.Omega.{arith}
-use borrow.Author.Rules.{rules}
-use borrow.Author.Tests.{not-true, not-false}
-use mathlib.Core.Bool.{true, false}
 use mathlib.Core.Path.{sym, ◌∙◌}
 use Prim.Native.Nat.{◌≤◌, ◌<◌}
 use lib.ListN.{length}

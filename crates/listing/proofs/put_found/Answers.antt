@@ -1,5 +1,4 @@
 -- `listing::put_found` meets its contract: each case stores its own text. Assumes nothing.
-use borrow.Author.Rules.{rules}
 use mathlib.Core.Path.{◌≡◌}
 use Rattle.book.specs.declared.Stamping.TheVariants.{Over}
 use Rattle.listing.proofs.put_found.Goals as goal
@@ -19,12 +18,12 @@ returns-in-Over c =
 
 pub returns-in-Stamped : goal.returns-in-Stamped
 returns-in-Stamped c = record {
-      value = rw c.in-Stamped.is c.put_stamped.ensures.value;
-      out_after = rw c.in-Stamped.is c.put_stamped.ensures.out_after;
-    }
+  value = rw c.in-Stamped.is c.put_stamped.ensures.value;
+  out_after = rw c.in-Stamped.is c.put_stamped.ensures.out_after;
+}
 
 pub returns-in-Unstamped : goal.returns-in-Unstamped
 returns-in-Unstamped c = record {
-      value = rw c.in-Unstamped.is c.put_refused.ensures.value;
-      out_after = rw c.in-Unstamped.is c.put_refused.ensures.out_after;
-    }
+  value = rw c.in-Unstamped.is c.put_refused.ensures.value;
+  out_after = rw c.in-Unstamped.is c.put_refused.ensures.out_after;
+}

@@ -1,5 +1,4 @@
 -- `listing::put_line` meets its contract: the place, then what was found there. Assumes nothing.
-use borrow.Author.Rules.{rules}
 use Rattle.listing.specs.Listing.{field, blank, found_text, line_at}
 use Rattle.listing.proofs.PutLaws.{first_room, then-room, both_end, both-held}
 use Rattle.listing.proofs.put_line.Goals as goal

@@ -1,5 +1,4 @@
 -- `listing::put_refused` meets its contract: the kind, then the code, then the place. Assumes nothing.
-use borrow.Author.Rules.{rules}
 use mathlib.Core.List.{List, ◌++◌}
 use Prim.Native.Nat.{ℕ, ◌+◌, ◌≤◌}
 use lib.ListN.{length}

@@ -1,5 +1,4 @@
 -- `listing::put_stamp` meets its contract: a minus where the stamp lies below zero, then its distance. Assumes nothing.
-use borrow.Author.Rules.{rules}
 use mathlib.Core.Bool.{true, false}
 use mathlib.Core.List.{List, [], ◌∷◌, ◌++◌}
 use mathlib.Core.Path.{◌≡◌, refl, sym, subst, ◌∙◌}

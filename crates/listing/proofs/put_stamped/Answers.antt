@@ -1,5 +1,4 @@
 -- `listing::put_stamped` meets its contract: the kind, then the stamp. Assumes nothing.
-use borrow.Author.Rules.{rules}
 use Rattle.listing.specs.Listing.{field, stamp_field, ok_word, zero_at_end}
 use Rattle.listing.proofs.PutLaws.{first_room, then-room, both_end, both-held}
 use Rattle.listing.proofs.put_stamped.Goals as goal

@@ -1,5 +1,4 @@
 -- `pulses::group_of` meets its contract. Assumes nothing.
-use borrow.Author.Rules.{rules}
 use native.Mathlib.Omega.{arith}
 use mathlib.Core.Path.{refl}
 use Rattle.pulses.specs.Row.{group_of}
@@ -8,6 +7,6 @@ use Rattle.pulses.proofs.group_of.Goals as goal
 pub returns : goal.returns
 unfolding group_of
 returns c = record {
-      value = refl;
-      upper_bound = omega arith;
-    }
+  value = refl;
+  upper_bound = omega arith;
+}

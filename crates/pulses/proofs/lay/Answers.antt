@@ -1,9 +1,9 @@
 -- `pulses::lay` meets its contract: after i turns the first i pulses are laid. Assumes nothing.
 use native.Mathlib.Omega.{arith}
 use mathlib.Core.Path.{◌≡◌, sym, ap, ◌∙◌}
-use Prim.Native.Nat.{◌≤◌, ◌<◌, ◌-◌}
+use Prim.Native.Nat.{◌<◌}
 use lib.ListN.{length}
-use Rattle.pulses.proofs.RowLaws.{laid_to, laid_none, fixed-stored, data-stored, laid-all, length-laid, too_few, enough}
+use Rattle.pulses.proofs.RowLaws.{laid_none, fixed-stored, data-stored, laid-all, length-laid, too_few, enough}
 use Rattle.pulses.proofs.lay.Goals as goal
 
 pub returns-then-out-table : goal.returns-then-out-table

@@ -1,9 +1,8 @@
 -- `pulses::lay` meets its contract: after i turns the first i pulses are laid. Assumes nothing.
-use native.Mathlib.Omega.{arith}
-use mathlib.Core.Path.{◌≡◌, sym, ap, ◌∙◌}
-use Prim.Native.Nat.{◌≤◌, ◌<◌, ◌-◌}
+use mathlib.Core.Path.{◌≡◌}
+use Prim.Native.Nat.{◌≤◌, ◌-◌}
 use lib.ListN.{length}
-use Rattle.pulses.proofs.RowLaws.{laid_to, laid_none, fixed-stored, data-stored, laid-all, length-laid, too_few, enough}
+use Rattle.pulses.proofs.RowLaws.{laid_to}
 use Rattle.pulses.proofs.lay.Given as goal
 
 abbrev pub invariant-loop-i : goal.invariant-loop-i

@@ -7,16 +7,15 @@ use lib.ListN.{length}
 use Rattle.laws.proofs.Bools.{failed, passed}
 use Rattle.pulses.specs.Row.{most_packed, ones_of}
 use Rattle.pulses.proofs.OnesLaws.{part_lies, ones_of_none, ones_of_two}
-use borrow.Author.Rules.{rules}
 use mathlib.Core.Path.{ap}
 use mathlib.Core.Bool.{not}
 use Rattle.pulses.proofs.ones.Goals as goal
 
 pub returns-then-not-lies_within : goal.returns-then-not-lies_within
 returns-then-not-lies_within c = record {
-      value = sym (ones_of_none _ _ _ (failed c.lies_within.ensures (ap not c.if-not-lies_within.true)));
-      upper_bound = omega arith;
-    }
+  value = sym (ones_of_none _ _ _ (failed c.lies_within.ensures (ap not c.if-not-lies_within.true)));
+  upper_bound = omega arith;
+}
 
 pub packed-high-requires : goal.packed-high-requires
 packed-high-requires c =

@@ -1,8 +1,7 @@
 -- `pulses::packed` meets its contract: after i turns the word holds i pulses. Assumes nothing.
 use native.Mathlib.Omega.{arith}
 use mathlib.Core.Path.{◌≡◌}
-use Prim.Native.Nat.{◌≤◌, ◌-◌}
-use Rattle.pulses.proofs.OnesLaws.{Packs, packs_none, packs_more, packs_room}
+use Rattle.pulses.proofs.OnesLaws.{packs_none, packs_more, packs_room}
 use Rattle.pulses.proofs.packed.Goals as goal
 
 pub loop-i-init : goal.loop-i-init

@@ -1,8 +1,6 @@
 -- `pulses::packed` meets its contract: after i turns the word holds i pulses. Assumes nothing.
-use native.Mathlib.Omega.{arith}
-use mathlib.Core.Path.{◌≡◌}
 use Prim.Native.Nat.{◌≤◌, ◌-◌}
-use Rattle.pulses.proofs.OnesLaws.{Packs, packs_none, packs_more, packs_room}
+use Rattle.pulses.proofs.OnesLaws.{Packs}
 use Rattle.pulses.proofs.packed.Given as goal
 
 abbrev pub invariant-loop-i : goal.invariant-loop-i

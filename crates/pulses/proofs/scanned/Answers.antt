@@ -1,9 +1,9 @@
 -- `pulses::scanned` meets its contract: after i turns the first i pulses are good, and the array holds what they add. Assumes nothing.
 use native.Mathlib.Omega.{arith}
-use Prim.Native.Nat.{◌≤◌, ◌<◌, ◌-◌}
+use Prim.Native.Nat.{◌<◌}
 use lib.ListN.{length}
 use Rattle.pulses.specs.Row.{most_places}
-use Rattle.pulses.proofs.ScanLaws.{Passed, passed_none, fixed-stops, fixed_more, data-stops, data-more, passed-all}
+use Rattle.pulses.proofs.ScanLaws.{passed_none, fixed-stops, fixed_more, data-stops, data-more, passed-all}
 use Rattle.pulses.proofs.scanned.Goals as goal
 
 pub loop-i-init : goal.loop-i-init

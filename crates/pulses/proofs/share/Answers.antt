@@ -1,5 +1,4 @@
 -- `pulses::share` meets its contract. Assumes nothing.
-use borrow.Author.Rules.{rules}
 use native.Mathlib.Omega.{arith}
 use Prim.Native.Nat.{ℕ, zero, suc, ◌*◌, ◌%◌, ◌<◌}
 use Rattle.pulses.specs.Row.{weights}
@@ -15,6 +14,6 @@ overflow_mul-result c = omega (arith, small c.weight_of.result (c.args.pulse % 2
 
 pub returns : goal.returns
 returns c = record {
-      value = rw c.weight_of.ensures.value;
-      upper_bound = small c.weight_of.result (c.args.pulse % 2) c.weight_of.ensures.upper_bound (omega arith);
-    }
+  value = rw c.weight_of.ensures.value;
+  upper_bound = small c.weight_of.result (c.args.pulse % 2) c.weight_of.ensures.upper_bound (omega arith);
+}

@@ -6,12 +6,12 @@ use Rattle.pulses.proofs.weight_of.Goals as goal
 
 pub returns-then-group_of-lt-FIRST_DATA : goal.returns-then-group_of-lt-FIRST_DATA
 returns-then-group_of-lt-FIRST_DATA c = record {
-      value = sym (fixed_weight _ (omega arith));
-      upper_bound = omega arith;
-    }
+  value = sym (fixed_weight _ (omega arith));
+  upper_bound = omega arith;
+}
 
 pub returns : goal.returns
 returns c = record {
-      value = sym (data_weight _ (omega arith));
-      upper_bound = omega arith;
-    }
+  value = sym (data_weight _ (omega arith));
+  upper_bound = omega arith;
+}

@@ -1,5 +1,4 @@
 -- `strings::fault_of` meets its contract. Assumes nothing.
-use borrow.Author.Rules.{rules}
 use mathlib.Core.Bool.{◌||◌}
 use mathlib.Core.Path.{◌∙◌}
 use Rattle.strings.specs.Checks.{time_fault, date_fault, rest_fault, fault_of}

@@ -1,5 +1,4 @@
 -- `strings::month_bad` meets its contract. Assumes nothing.
-use borrow.Author.Rules.{rules}
 use Rattle.reading.specs.Checks.{month_bad}
 use Rattle.strings.proofs.month_bad.Goals as goal
 

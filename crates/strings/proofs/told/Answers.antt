@@ -1,5 +1,4 @@
 -- `strings::told` meets its contract. Assumes nothing.
-use borrow.Author.Rules.{rules}
 use mathlib.Core.Path.{◌≡◌}
 use mathlib.Core.Bool.{Bool}
 use Rattle.reading.specs.declared.Reading.{Reading}

@@ -1,10 +1,9 @@
 -- `text::digits_of` meets its contract. The loop's invariant: the digits still to come, in front of those stored, are the number's. The measure is what is left of the number. Assumes nothing.
 use native.Mathlib.Omega.{arith}
-use mathlib.Core.Path.{◌≡◌, refl}
-use Prim.Native.Nat.{ℕ, ◌^◌, ◌≤◌, ◌<◌}
-use lib.Dec.{lit<}
+use mathlib.Core.Path.{refl}
+use Prim.Native.Nat.{ℕ, ◌^◌, ◌<◌}
 use Rattle.text.specs.Decimal.{decimal}
-use Rattle.text.proofs.DecimalLaws.{Stored, two_left, turn, finished}
+use Rattle.text.proofs.DecimalLaws.{turn, finished}
 use Rattle.text.proofs.digits_of.Goals as goal
 
 -- a word of 64 bits has at most 20 digits

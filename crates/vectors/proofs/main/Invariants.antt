@@ -1,5 +1,4 @@
 -- `vectors::main` is safe and ends: the measure is the number of turns that are left. Assumes nothing.
-use Rattle.std.proofs.Common.{arith, rules}
 use Rattle.vectors.proofs.main.Given as goal
 
 abbrev pub invariant-loop-turns : goal.invariant-loop-turns

@@ -1,5 +1,4 @@
 -- `book::body::of_frame` meets its contract. Assumes nothing.
-use borrow.Author.Rules.{rules}
 use Rattle.book.proofs.body.of_frame.Goals as goal
 
 pub returns-in-Time : goal.returns-in-Time

@@ -1,5 +1,4 @@
 -- `book::body::of_minute` meets its contract. Assumes nothing.
-use borrow.Author.Rules.{rules}
 use Rattle.book.proofs.body.of_minute.Goals as goal
 
 pub returns-in-Time : goal.returns-in-Time

@@ -1,5 +1,4 @@
 -- `book::body::of_string` meets its contract. Assumes nothing.
-use borrow.Author.Rules.{rules}
 use Rattle.book.proofs.body.of_string.Goals as goal
 
 pub returns-in-Meinberg : goal.returns-in-Meinberg

@@ -1,7 +1,6 @@
 -- `book::body::read_body` meets its contract. Assumes nothing.
 use borrow.Author.Tests.{ne_eqb}
 use Rattle.book.specs.Body.{read_body}
-use borrow.Author.Rules.{rules}
 use Rattle.book.proofs.body.read_body.Goals as goal
 
 pub returns-in-1 : goal.returns-in-1

@@ -1,5 +1,4 @@
 -- `book::body::record_of` meets its contract. Assumes nothing.
-use borrow.Author.Rules.{rules}
 use Rattle.book.proofs.body.record_of.Goals as goal
 
 pub returns-in-Time : goal.returns-in-Time

@@ -1,5 +1,4 @@
 -- `book::stamps::stamping_of` meets its contract. Assumes nothing.
-use borrow.Author.Rules.{rules}
 use mathlib.Core.Path.{◌≡◌}
 use Rattle.book.specs.declared.Record.TheVariants.{Over}
 use Rattle.book.proofs.stamps.stamping_of.Goals as goal

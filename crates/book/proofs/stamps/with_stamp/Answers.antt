@@ -1,5 +1,4 @@
 -- `book::stamps::with_stamp` meets its contract. Assumes nothing.
-use borrow.Author.Rules.{rules}
 use Rattle.book.proofs.stamps.with_stamp.Goals as goal
 
 pub returns-in-At : goal.returns-in-At

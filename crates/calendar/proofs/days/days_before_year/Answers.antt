@@ -1,6 +1,5 @@
 -- `calendar::days::days_before_year` meets its contract. Assumes nothing.
 use native.Mathlib.Omega.{arith}
-use borrow.Author.Rules.{rules}
 use Rattle.calendar.proofs.YearLaws.{years_formula}
 use Rattle.calendar.proofs.days.days_before_year.Goals as goal
 

@@ -1,5 +1,4 @@
 -- `calendar::days::in_year` meets its contract. Assumes nothing.
-use borrow.Author.Rules.{rules}
 use Rattle.calendar.specs.Calendar.{in_year}
 use Rattle.calendar.proofs.days.in_year.Goals as goal
 

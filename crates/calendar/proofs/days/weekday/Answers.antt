@@ -1,5 +1,4 @@
 -- `calendar::days::weekday` meets its contract. Assumes nothing.
-use borrow.Author.Rules.{rules}
 use Rattle.calendar.specs.Calendar.{weekday_of}
 use Rattle.calendar.proofs.days.weekday.Goals as goal
 

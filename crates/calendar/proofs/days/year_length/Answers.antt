@@ -1,6 +1,4 @@
 -- `calendar::days::year_length` meets its contract. Assumes nothing.
-use mathlib.Core.Path.{◌≡◌}
-use mathlib.Core.Bool.{Bool, true, false}
 use Rattle.calendar.specs.Calendar.{year_length}
 use Rattle.calendar.proofs.days.year_length.Goals as goal
 

@@ -1,5 +1,4 @@
 -- `calendar::months::is_date` meets its contract. Assumes nothing.
-use borrow.Author.Rules.{rules}
 use Rattle.calendar.specs.Calendar.{is_date}
 use Rattle.calendar.proofs.months.is_date.Goals as goal
 

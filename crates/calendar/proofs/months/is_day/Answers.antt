@@ -1,5 +1,4 @@
 -- `calendar::months::is_day` meets its contract. Assumes nothing.
-use borrow.Author.Rules.{rules}
 use Rattle.calendar.specs.Calendar.{is_day}
 use Rattle.calendar.proofs.months.is_day.Goals as goal
 

@@ -1,5 +1,4 @@
 -- `calendar::neighbours::year_after` meets its contract. Assumes nothing.
-use borrow.Author.Rules.{rules}
 use borrow.Author.Tests.{lt-ltb, le-ltb}
 use Rattle.calendar.specs.Calendar.{year_after}
 use Rattle.calendar.proofs.neighbours.year_after.Goals as goal

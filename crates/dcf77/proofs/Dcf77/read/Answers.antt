@@ -1,8 +1,6 @@
 -- `dcf77::Dcf77::read` meets its contract. Assumes nothing.
-use borrow.Author.Rules.{rules}
 use Rattle.dcf77.proofs.ReadLaws.{found_good, found_all, found_sums, found_proper, found_head, wrong_length, other_base_lem, wrong-mark, marks-told}
 use Rattle.reading.specs.Years.{is_base}
-use borrow.Author.Tests.{not-true, not-false}
 use mathlib.Core.Bool.{true, false}
 use mathlib.Core.Path.{◌≡◌, sym, ◌∙◌}
 use lib.ListN.{length}

@@ -1,6 +1,4 @@
 -- `dcf77::Dcf77::write` meets its contract. Assumes nothing.
-use borrow.Author.Rules.{rules}
-use borrow.Author.Tests.{not-true, not-false}
 use mathlib.Core.Path.{refl, sym, ap, ◌∙◌}
 use lib.ListN.{length}
 use Rattle.reading.specs.declared.Written.TheVariants.{No}

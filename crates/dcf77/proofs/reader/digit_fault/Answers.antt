@@ -1,5 +1,4 @@
 -- `dcf77::reader::digit_fault` meets its contract. Assumes nothing.
-use borrow.Author.Rules.{rules}
 use Rattle.dcf77.specs.Reader.{digit_fault}
 use Rattle.dcf77.proofs.reader.digit_fault.Goals as goal
 

@@ -1,5 +1,4 @@
 -- `dcf77::reader::field_fault` meets its contract. Assumes nothing.
-use borrow.Author.Rules.{rules}
 use Rattle.reading.specs.Checks.{month_bad}
 use Rattle.dcf77.specs.Reader.{field_fault}
 use Rattle.dcf77.proofs.reader.field_fault.Goals as goal

@@ -1,5 +1,4 @@
 -- `dcf77::reader::odd` meets its contract. Assumes nothing.
-use borrow.Author.Rules.{rules}
 use Rattle.dcf77.specs.Reader.{odd}
 use Rattle.dcf77.proofs.reader.odd.Goals as goal
 

@@ -1,5 +1,4 @@
 -- `dcf77::reader::parity_fault` meets its contract. Assumes nothing.
-use borrow.Author.Rules.{rules}
 use Rattle.dcf77.specs.Reader.{parity_fault}
 use Rattle.dcf77.proofs.reader.parity_fault.Goals as goal
 

@@ -1,5 +1,4 @@
 -- `dcf77::reader::rule_fault` meets its contract. Assumes nothing.
-use borrow.Author.Rules.{rules}
 use Rattle.dcf77.specs.Reader.{rule_fault}
 use Rattle.dcf77.proofs.reader.rule_fault.Goals as goal
 

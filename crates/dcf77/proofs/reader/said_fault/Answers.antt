@@ -1,5 +1,4 @@
 -- `dcf77::reader::said_fault` meets its contract. Assumes nothing.
-use borrow.Author.Rules.{rules}
 use Rattle.dcf77.specs.Reader.{said_fault}
 use Rattle.dcf77.specs.Reader.{is_long, said_fault}
 use Rattle.dcf77.proofs.reader.said_fault.Goals as goal

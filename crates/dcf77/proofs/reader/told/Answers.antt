@@ -1,5 +1,4 @@
 -- `dcf77::reader::told` meets its contract. Assumes nothing.
-use borrow.Author.Rules.{rules}
 use Rattle.dcf77.proofs.reader.told.Goals as goal
 
 pub returns-in-Good : goal.returns-in-Good

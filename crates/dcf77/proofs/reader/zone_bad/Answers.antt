@@ -1,5 +1,4 @@
 -- `dcf77::reader::zone_bad` meets its contract. Assumes nothing.
-use borrow.Author.Rules.{rules}
 use Rattle.dcf77.specs.Zones.{zone_bad}
 use Rattle.dcf77.proofs.reader.zone_bad.Goals as goal
 

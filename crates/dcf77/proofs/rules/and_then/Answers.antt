@@ -1,5 +1,4 @@
 -- `dcf77::rules::and_then` meets its contract. Assumes nothing.
-use borrow.Author.Rules.{rules}
 use Rattle.dcf77.proofs.rules.and_then.Goals as goal
 
 pub returns-in-Good : goal.returns-in-Good

@@ -1,5 +1,4 @@
 -- `dcf77::rules::due_long` meets its contract. Assumes nothing.
-use borrow.Author.Rules.{rules}
 use Rattle.dcf77.specs.Forms.{due_long}
 use Rattle.dcf77.proofs.rules.due_long.Goals as goal
 

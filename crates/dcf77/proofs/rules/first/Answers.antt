@@ -1,5 +1,4 @@
 -- `dcf77::rules::first` meets its contract. Assumes nothing.
-use borrow.Author.Rules.{rules}
 use Rattle.dcf77.proofs.rules.first.Goals as goal
 
 pub returns-then-bad : goal.returns-then-bad

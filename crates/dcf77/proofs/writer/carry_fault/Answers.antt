@@ -1,5 +1,4 @@
 -- `dcf77::writer::carry_fault` meets its contract. Assumes nothing.
-use borrow.Author.Rules.{rules}
 use Rattle.dcf77.specs.Writer.{carry_fault}
 use Rattle.dcf77.proofs.writer.carry_fault.Goals as goal
 

@@ -1,5 +1,4 @@
 -- `dcf77::writer::checked_with` meets its contract. Assumes nothing.
-use borrow.Author.Rules.{rules}
 use Rattle.dcf77.specs.Writer.{head_bad, checked_with}
 use Rattle.dcf77.proofs.writer.checked_with.Goals as goal
 

@@ -1,5 +1,4 @@
 -- `dcf77::writer::evened` meets its contract. Assumes nothing.
-use borrow.Author.Rules.{rules}
 use Rattle.dcf77.specs.Writer.{evened}
 use Rattle.dcf77.proofs.writer.evened.Goals as goal
 

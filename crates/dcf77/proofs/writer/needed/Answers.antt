@@ -1,5 +1,4 @@
 -- `dcf77::writer::needed` meets its contract. Assumes nothing.
-use borrow.Author.Rules.{rules}
 use Rattle.dcf77.specs.Writer.{needed}
 use Rattle.dcf77.proofs.writer.needed.Goals as goal
 

@@ -1,5 +1,4 @@
 -- `dcf77::writer::not_carried_lem` meets its contract. Assumes nothing.
-use borrow.Author.Rules.{rules}
 use Rattle.dcf77.specs.Writer.{not_carried}
 use Rattle.dcf77.proofs.writer.not_carried.Goals as goal
 

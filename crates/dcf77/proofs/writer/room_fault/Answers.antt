@@ -1,5 +1,4 @@
 -- `dcf77::writer::room_fault` meets its contract. Assumes nothing.
-use borrow.Author.Rules.{rules}
 use Rattle.dcf77.specs.Writer.{room_fault}
 use Rattle.dcf77.proofs.writer.room_fault.Goals as goal
 

@@ -16,7 +16,6 @@ use Rattle.erlangen.specs.Layout.{size}
 use Rattle.erlangen.specs.Writing.{bytes_of, write_fault}
 use Rattle.erlangen.proofs.FaultLaws.{carried_is}
 use Rattle.erlangen.proofs.BytesLaws.{bytes-length}
-use borrow.Author.Rules.{rules}
 use Rattle.erlangen.proofs.Erlangen.write.Goals as goal
 
 module _ (base : ℕ) (r : Reading) (coasting : Bool) (position l : List ℕ) where

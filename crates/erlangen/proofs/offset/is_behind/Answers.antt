@@ -1,6 +1,5 @@
 -- `erlangen::offset::is_behind` meets its contract. Assumes nothing.
 use Rattle.erlangen.specs.Offset.{is_behind}
-use borrow.Author.Rules.{rules}
 use Rattle.erlangen.proofs.offset.is_behind.Goals as goal
 
 pub returns : goal.returns

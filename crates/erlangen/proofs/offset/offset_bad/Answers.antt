@@ -1,6 +1,5 @@
 -- `erlangen::offset::offset_bad` meets its contract. Assumes nothing.
 use Rattle.erlangen.specs.Offset.{offset_bad}
-use borrow.Author.Rules.{rules}
 use Rattle.erlangen.proofs.offset.offset_bad.Goals as goal
 
 pub returns : goal.returns

@@ -7,7 +7,6 @@ use lib.IntN.{pos}
 use Rattle.reading.specs.declared.LocalMinusUtc.{LocalMinusUtc}
 use Rattle.erlangen.specs.Offset.{units_of, offset_bad, signed, offset_of}
 use Rattle.erlangen.proofs.OffsetLaws.{not_far}
-use borrow.Author.Rules.{rules}
 use Rattle.erlangen.proofs.offset.offset_of.Goals as goal
 
 module _ (behind : Bool) (hours minutes : ℕ) where

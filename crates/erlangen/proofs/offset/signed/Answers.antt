@@ -9,7 +9,6 @@ use Rattle.laws.specs.Tests.{same}
 use Rattle.laws.proofs.Signed.{same_is}
 use Rattle.reading.specs.Offset.{opposite}
 use Rattle.erlangen.specs.Offset.{signed}
-use borrow.Author.Rules.{rules}
 use Rattle.erlangen.proofs.offset.signed.Goals as goal
 
 pub overflow_sub-result : goal.overflow_sub-result

@@ -1,7 +1,6 @@
 -- `erlangen::offset::units_of` meets its contract. Assumes nothing.
 use mathlib.Core.Path.{refl}
 use Rattle.erlangen.specs.Offset.{units_of}
-use borrow.Author.Rules.{rules}
 use Rattle.erlangen.proofs.offset.units_of.Goals as goal
 
 pub returns : goal.returns

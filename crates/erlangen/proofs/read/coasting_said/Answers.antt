@@ -1,6 +1,5 @@
 -- `erlangen::read::coasting_said` meets its contract. Assumes nothing.
 use Rattle.erlangen.specs.Meaning.{coasting_said}
-use borrow.Author.Rules.{rules}
 use Rattle.erlangen.proofs.read.coasting_said.Goals as goal
 
 pub returns : goal.returns

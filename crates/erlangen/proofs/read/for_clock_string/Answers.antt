@@ -1,9 +1,7 @@
 -- `erlangen::read::for_clock_string` meets its contract: length, base, bytes and meaning in their order. Assumes nothing.
 use native.Mathlib.Omega.{arith}
-use borrow.Author.Rules.{rules}
 use mathlib.Core.Bool.{true}
 use mathlib.Core.Path.{◌≡◌, sym, ◌∙◌}
-use borrow.Author.Tests.{not-true, not-false}
 use Rattle.reading.specs.Years.{is_base}
 use Rattle.erlangen.proofs.FaultLaws.{wrong_length, other_base_lem, wrong_byte, said_last, refused, answered}
 use Rattle.erlangen.proofs.read.for_clock_string.Goals as goal

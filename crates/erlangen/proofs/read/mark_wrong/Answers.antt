@@ -1,6 +1,5 @@
 -- `erlangen::read::mark_wrong` meets its contract. Assumes nothing.
 use Rattle.erlangen.specs.Meaning.{mark_wrong}
-use borrow.Author.Rules.{rules}
 use Rattle.erlangen.proofs.read.mark_wrong.Goals as goal
 
 pub returns : goal.returns

@@ -1,6 +1,5 @@
 -- `erlangen::read::offset_wrong` meets its contract. Assumes nothing.
 use Rattle.erlangen.specs.Meaning.{offset_wrong}
-use borrow.Author.Rules.{rules}
 use Rattle.erlangen.proofs.read.offset_wrong.Goals as goal
 
 pub returns : goal.returns

@@ -4,7 +4,6 @@ use mathlib.Core.Path.{ap, ◌∙◌}
 use Rattle.reading.specs.Years.{year_of}
 use Rattle.erlangen.specs.Offset.{offset_of}
 use Rattle.erlangen.specs.Meaning.{reading_of}
-use borrow.Author.Rules.{rules}
 use Rattle.erlangen.proofs.read.reading_of.Goals as goal
 
 pub returns : goal.returns

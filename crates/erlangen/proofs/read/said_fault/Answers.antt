@@ -1,5 +1,4 @@
 -- `erlangen::read::said_fault` meets its contract. Assumes nothing.
-use borrow.Author.Rules.{rules}
 use Rattle.erlangen.proofs.read.said_fault.Goals as goal
 
 pub returns : goal.returns

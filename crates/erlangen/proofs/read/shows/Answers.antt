@@ -1,5 +1,4 @@
 -- `erlangen::read::shows` meets its contract. Assumes nothing.
-use borrow.Author.Rules.{rules}
 use Rattle.erlangen.specs.Meaning.{shows}
 use Rattle.erlangen.proofs.read.shows.Goals as goal
 

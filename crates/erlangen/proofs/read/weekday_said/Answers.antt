@@ -1,6 +1,5 @@
 -- `erlangen::read::weekday_said` meets its contract. Assumes nothing.
 use Rattle.erlangen.specs.Meaning.{weekday_said}
-use borrow.Author.Rules.{rules}
 use Rattle.erlangen.proofs.read.weekday_said.Goals as goal
 
 pub returns : goal.returns

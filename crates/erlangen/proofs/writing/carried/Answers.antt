@@ -8,7 +8,6 @@ use Rattle.reading.specs.declared.Fault.TheVariants.{NotCarried}
 use Rattle.reading.specs.declared.Verdict.TheVariants.{Good, Bad}
 use Rattle.reading.specs.Checks.{sound_of}
 use Rattle.erlangen.specs.Writing.{not_carried, carried_of}
-use borrow.Author.Rules.{rules}
 use Rattle.erlangen.proofs.writing.carried.Goals as goal
 
 module _ (base : ℕ) (r : Reading) where

@@ -1,6 +1,5 @@
 -- `erlangen::writing::date_bytes` meets its contract. Assumes nothing.
 use Rattle.erlangen.specs.Writing.{date_bytes}
-use borrow.Author.Rules.{rules}
 use Rattle.erlangen.proofs.writing.date_bytes.Goals as goal
 
 pub returns : goal.returns

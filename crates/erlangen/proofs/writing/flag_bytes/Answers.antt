@@ -1,6 +1,5 @@
 -- `erlangen::writing::flag_bytes` meets its contract. Assumes nothing.
 use Rattle.erlangen.specs.Writing.{flag_bytes}
-use borrow.Author.Rules.{rules}
 use Rattle.erlangen.proofs.writing.flag_bytes.Goals as goal
 
 pub returns : goal.returns

@@ -1,6 +1,5 @@
 -- `erlangen::writing::lay` meets its contract. Assumes nothing.
 use Rattle.erlangen.proofs.BytesLaws.{laid}
-use borrow.Author.Rules.{rules}
 use Rattle.erlangen.proofs.writing.lay.Goals as goal
 
 pub returns : goal.returns

@@ -1,6 +1,5 @@
 -- `erlangen::writing::offset_bytes` meets its contract. Assumes nothing.
 use Rattle.erlangen.specs.Writing.{offset_bytes}
-use borrow.Author.Rules.{rules}
 use Rattle.erlangen.proofs.writing.offset_bytes.Goals as goal
 
 pub returns : goal.returns

@@ -1,6 +1,5 @@
 -- `erlangen::writing::time_bytes` meets its contract. Assumes nothing.
 use Rattle.erlangen.specs.Writing.{time_bytes}
-use borrow.Author.Rules.{rules}
 use Rattle.erlangen.proofs.writing.time_bytes.Goals as goal
 
 pub returns : goal.returns

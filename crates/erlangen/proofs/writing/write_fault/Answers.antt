@@ -3,7 +3,7 @@ use mathlib.Core.Bool.{true, false}
 use mathlib.Core.List.{List}
 use mathlib.Core.Path.{◌≡◌, sym, ◌∙◌}
 use Prim.Native.Nat.{ℕ, ◌≤◌, ◌<◌}
-use borrow.Author.Tests.{lt-ltb, le-ltb, not-true, not-false}
+use borrow.Author.Tests.{lt-ltb, le-ltb}
 use Rattle.wire.specs.Layout.{printables}
 use Rattle.reading.specs.declared.Reading.{Reading}
 use Rattle.reading.specs.declared.Fault.TheVariants.{Length, Byte, OtherBase}
@@ -12,7 +12,6 @@ use Rattle.reading.specs.declared.Verdict.TheVariants.{Bad}
 use Rattle.reading.specs.Years.{is_base}
 use Rattle.erlangen.specs.Layout.{position_size}
 use Rattle.erlangen.specs.Writing.{length_bad, carried_of, write_fault}
-use borrow.Author.Rules.{rules}
 use Rattle.erlangen.proofs.writing.write_fault.Goals as goal
 
 module _ (base : ℕ) (r : Reading) (position : List ℕ) (room : ℕ) where

@@ -3,7 +3,6 @@ use mathlib.Core.Bool.{true}
 use mathlib.Core.Path.{◌≡◌, sym, ◌∙◌}
 use native.Mathlib.Omega.{arith}
 use lib.ListN.{length}
-use borrow.Author.Tests.{not-true, not-false}
 use Rattle.reading.specs.Years.{is_base}
 use Rattle.irig.specs.Faults.{frame_length}
 use Rattle.irig.proofs.GroupLaws.{sums_small}

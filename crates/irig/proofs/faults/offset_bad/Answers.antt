@@ -1,5 +1,4 @@
 -- `irig::faults::offset_bad` meets its contract. Assumes nothing.
-use borrow.Author.Rules.{rules}
 use Rattle.irig.proofs.faults.offset_bad.Goals as goal
 
 pub returns : goal.returns

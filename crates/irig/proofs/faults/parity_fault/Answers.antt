@@ -1,5 +1,4 @@
 -- `irig::faults::parity_fault` meets its contract. Assumes nothing.
-use borrow.Author.Rules.{rules}
 use Rattle.irig.proofs.faults.parity_fault.Goals as goal
 
 pub returns-then-odd : goal.returns-then-odd

@@ -1,5 +1,4 @@
 -- `irig::faults::rest_fault` meets its contract. Assumes nothing.
-use borrow.Author.Rules.{rules}
 use Rattle.irig.proofs.faults.rest_fault.Goals as goal
 
 pub returns-then-day : goal.returns-then-day

@@ -1,5 +1,4 @@
 -- `irig::faults::second_of_day_wrong` meets its contract. Assumes nothing.
-use borrow.Author.Rules.{rules}
 use Rattle.irig.proofs.faults.second_of_day_wrong.Goals as goal
 
 pub returns : goal.returns

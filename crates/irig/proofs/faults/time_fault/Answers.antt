@@ -1,5 +1,4 @@
 -- `irig::faults::time_fault` meets its contract. Assumes nothing.
-use borrow.Author.Rules.{rules}
 use Rattle.irig.proofs.faults.time_fault.Goals as goal
 
 pub returns-then-second : goal.returns-then-second

@@ -1,5 +1,4 @@
 -- `irig::faults::values_fault` meets its contract. Assumes nothing.
-use borrow.Author.Rules.{rules}
 use mathlib.Core.Bool.{◌||◌}
 use mathlib.Core.Path.{ap, ◌∙◌}
 use Rattle.irig.specs.Faults.{digit_fault, parity_fault, values_fault}

@@ -1,5 +1,4 @@
 -- `irig::fields::day_in` meets its contract. Assumes nothing.
-use borrow.Author.Rules.{rules}
 use Rattle.irig.specs.Meaning.{day_in}
 use Rattle.irig.proofs.fields.day_in.Goals as goal
 

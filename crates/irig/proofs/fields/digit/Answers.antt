@@ -1,5 +1,4 @@
 -- `irig::fields::digit` meets its contract. Assumes nothing.
-use borrow.Author.Rules.{rules}
 use native.Mathlib.Omega.{arith}
 use mathlib.Core.Path.{refl}
 use Rattle.irig.proofs.fields.digit.Goals as goal
@@ -9,6 +8,6 @@ overflow_cast-result c = omega (arith, c.requires.small c.args.group c.requires.
 
 pub returns : goal.returns
 returns c = record {
-      value = refl;
-      upper_bound = c.requires.small c.args.group c.requires.first_data_le_group.0 c.requires.first_data_le_group.1;
-    }
+  value = refl;
+  upper_bound = c.requires.small c.args.group c.requires.first_data_le_group.0 c.requires.first_data_le_group.1;
+}

@@ -1,5 +1,4 @@
 -- `irig::fields::halves_in` meets its contract. Assumes nothing.
-use borrow.Author.Rules.{rules}
 use Rattle.irig.specs.Meaning.{halves_in}
 use Rattle.irig.proofs.fields.halves_in.Goals as goal
 

@@ -1,5 +1,4 @@
 -- `irig::groups::groups_of` meets its contract. Assumes nothing.
-use borrow.Author.Rules.{rules}
 use mathlib.Core.List.{[], ◌∷◌}
 use Prim.Native.Nat.{◌/◌, ◌%◌}
 use Rattle.irig.specs.Writing.{groups_of}

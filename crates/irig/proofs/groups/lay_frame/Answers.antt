@@ -1,5 +1,4 @@
 -- `irig::groups::lay_frame` meets its contract: the row laid with parity 0 is mended at one place. Assumes nothing.
-use borrow.Author.Rules.{rules}
 use Rattle.irig.proofs.ParityLaws.{mended}
 use Rattle.irig.proofs.groups.lay_frame.Goals as goal
 

@@ -1,5 +1,4 @@
 -- `irig::groups::values_of` meets its contract. Assumes nothing.
-use borrow.Author.Rules.{rules}
 use Rattle.irig.specs.Writing.{values_of}
 use Rattle.irig.proofs.groups.values_of.Goals as goal
 

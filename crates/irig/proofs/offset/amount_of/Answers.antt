@@ -1,5 +1,4 @@
 -- `irig::offset::amount_of` meets its contract. Assumes nothing.
-use borrow.Author.Rules.{rules}
 use native.Mathlib.Omega.{arith}
 use Rattle.irig.proofs.AmountLaws.{units_fit, opposite_fits, behind, ahead}
 use Rattle.irig.proofs.offset.amount_of.Goals as goal

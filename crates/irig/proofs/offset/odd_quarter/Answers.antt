@@ -1,5 +1,4 @@
 -- `irig::offset::odd_quarter` meets its contract. Assumes nothing.
-use borrow.Author.Rules.{rules}
 use Rattle.irig.specs.Offset.{odd_quarter}
 use Rattle.irig.proofs.offset.odd_quarter.Goals as goal
 

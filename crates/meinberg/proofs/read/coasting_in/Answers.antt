@@ -1,5 +1,4 @@
 -- `meinberg::read::coasting_in` meets its contract. Assumes nothing.
-use borrow.Author.Rules.{rules}
 use Rattle.meinberg.specs.Meaning.{coasting_in}
 use Rattle.meinberg.proofs.read.coasting_in.Goals as goal
 

@@ -1,10 +1,8 @@
 -- `meinberg::read::for_clock_string` meets its contract: length, base, bytes and meaning in their order. Assumes nothing.
 use native.Mathlib.Omega.{arith}
-use borrow.Author.Rules.{rules}
 use mathlib.Core.Bool.{true, false}
 use mathlib.Core.Path.{◌≡◌, sym, ◌∙◌}
 use lib.ListN.{get_or}
-use borrow.Author.Tests.{not-true, not-false}
 use Rattle.reading.specs.Years.{is_base}
 use Rattle.wire.specs.Digits.{digit}
 use Rattle.strings.specs.Checks.{fault_of}

@@ -1,5 +1,4 @@
 -- `meinberg::read::meaning` meets its contract. Assumes nothing.
-use borrow.Author.Rules.{rules}
 use mathlib.Core.Path.{ap, ◌∙◌}
 use lib.Dec.{eqb}
 use Rattle.reading.specs.Years.{year_of}

@@ -1,5 +1,4 @@
 -- `meinberg::write::announcement` meets its contract. Assumes nothing.
-use borrow.Author.Rules.{rules}
 use Rattle.meinberg.specs.Writing.{announcement}
 use Rattle.meinberg.proofs.write.announcement.Goals as goal
 

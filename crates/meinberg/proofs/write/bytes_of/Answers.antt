@@ -1,5 +1,4 @@
 -- `meinberg::write::bytes_of` meets its contract. Assumes nothing.
-use borrow.Author.Rules.{rules}
 use mathlib.Core.List.{[], ◌∷◌}
 use mathlib.Core.Path.{ap, ◌∙◌}
 use Rattle.wire.specs.Digits.{tens, ones}

@@ -1,5 +1,4 @@
 -- `meinberg::write::not_carried_lem` meets its contract. Assumes nothing.
-use borrow.Author.Rules.{rules}
 use Rattle.meinberg.specs.Writing.{not_carried}
 use Rattle.meinberg.proofs.write.not_carried.Goals as goal
 

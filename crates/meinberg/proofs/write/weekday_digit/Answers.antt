@@ -1,5 +1,4 @@
 -- `meinberg::write::weekday_digit` meets its contract. Assumes nothing.
-use borrow.Author.Rules.{rules}
 use Rattle.meinberg.proofs.write.weekday_digit.Goals as goal
 
 pub returns : goal.returns

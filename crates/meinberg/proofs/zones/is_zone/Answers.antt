@@ -1,5 +1,4 @@
 -- `meinberg::zones::is_zone` meets its contract. Assumes nothing.
-use borrow.Author.Rules.{rules}
 use Rattle.meinberg.specs.Zones.{is_zone}
 use Rattle.meinberg.proofs.zones.is_zone.Goals as goal
 

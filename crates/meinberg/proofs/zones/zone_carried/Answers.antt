@@ -1,5 +1,4 @@
 -- `meinberg::zones::zone_carried` meets its contract. Assumes nothing.
-use borrow.Author.Rules.{rules}
 use Rattle.meinberg.specs.Zones.{zone_carried}
 use Rattle.meinberg.proofs.zones.zone_carried.Goals as goal
 

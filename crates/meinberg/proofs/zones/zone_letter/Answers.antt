@@ -1,5 +1,4 @@
 -- `meinberg::zones::zone_letter` meets its contract. Assumes nothing.
-use borrow.Author.Rules.{rules}
 use Rattle.meinberg.specs.Zones.{zone_letter}
 use Rattle.meinberg.proofs.zones.zone_letter.Goals as goal
 

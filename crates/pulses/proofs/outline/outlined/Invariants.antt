@@ -1,17 +1,8 @@
 -- `pulses::outline::outlined` meets its contract. The loop's invariant: what is left has the outline exactly where the whole has it. Assumes nothing.
-use native.Mathlib.Omega.{arith}
-use borrow.Author.Rules.{rules}
-use mathlib.Core.Path.{◌≡◌, refl, sym, ◌∙◌}
-use mathlib.Core.Bool.{true, false}
-use mathlib.Core.List.{List}
-use Prim.Native.Nat.{ℕ, ◌+◌, ◌-◌, ◌≤◌, ◌<◌}
-use native.Mathlib.Numerals.{add-one}
+use mathlib.Core.Path.{◌≡◌}
+use Prim.Native.Nat.{◌-◌, ◌≤◌}
 use lib.ListN.{length, drop}
-use Rattle.laws.proofs.Bools.{failed, passed}
 use Rattle.pulses.specs.Outline.{outline_of}
-use Rattle.pulses.proofs.OutlineLaws.{no_outline, outline_at, outline_more, outline_stops, outline_ends}
-use mathlib.Core.Path.{ap}
-use mathlib.Core.Bool.{not}
 use Rattle.pulses.proofs.outline.outlined.Given as goal
 
 abbrev pub invariant-loop-i : goal.invariant-loop-i

@@ -10,7 +10,7 @@ use mir.Val.{SFits}
 use mir.Facts.{to_z-of_z}
 use borrow.Author.Tests.{ltb-true, ltb-false, le-ltb}
 use Rattle.laws.proofs.Bools.{never}
-use Rattle.reading.proofs.Bits.{back, back16, opposite_size, same_amount}
+use Rattle.reading.proofs.Bits.{back, back16, same_amount}
 use Rattle.reading.proofs.OffsetLaws.{Amount, local_is}
 use Rattle.reading.specs.Offset.{opposite, local_of}
 use Rattle.reading.proofs.AddedToLocal.local.Goals as goal

@@ -1,5 +1,4 @@
 -- `reading::checks::checked` meets its contract. Assumes nothing.
-use borrow.Author.Rules.{rules}
 use mathlib.Core.Path.{sym, ◌∙◌}
 use Rattle.reading.specs.Checks.{checked_of}
 use Rattle.reading.proofs.checks.checked.Goals as goal

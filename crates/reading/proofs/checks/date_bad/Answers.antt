@@ -1,5 +1,4 @@
 -- `reading::checks::date_bad` meets its contract. Assumes nothing.
-use borrow.Author.Rules.{rules}
 use Rattle.reading.specs.Checks.{date_bad}
 use Rattle.reading.proofs.checks.date_bad.Goals as goal
 

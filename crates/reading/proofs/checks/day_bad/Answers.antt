@@ -1,5 +1,4 @@
 -- `reading::checks::day_bad` meets its contract. Assumes nothing.
-use borrow.Author.Rules.{rules}
 use Rattle.reading.specs.Checks.{day_bad}
 use Rattle.reading.proofs.checks.day_bad.Goals as goal
 

@@ -1,5 +1,4 @@
 -- `reading::checks::first_fault` meets its contract. Assumes nothing.
-use borrow.Author.Rules.{rules}
 use Rattle.reading.proofs.checks.first_fault.Goals as goal
 
 pub returns-then-time : goal.returns-then-time

@@ -1,5 +1,4 @@
 -- `reading::checks::leap_second_bad` meets its contract. Assumes nothing.
-use borrow.Author.Rules.{rules}
 use borrow.Author.Tests.{eq-eqb, ne_eqb}
 use Rattle.reading.specs.Universal.{utc_of}
 use Rattle.reading.specs.Leap.{sixty_bad}

@@ -1,5 +1,4 @@
 -- `reading::checks::no_day` meets its contract. Assumes nothing.
-use borrow.Author.Rules.{rules}
 use Rattle.reading.proofs.checks.no_day.Goals as goal
 
 pub returns : goal.returns

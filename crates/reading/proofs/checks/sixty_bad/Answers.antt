@@ -1,5 +1,4 @@
 -- `reading::checks::sixty_bad` meets its contract. Assumes nothing.
-use borrow.Author.Rules.{rules}
 use Rattle.laws.proofs.Bools.{failed}
 use Rattle.reading.proofs.LeapLaws.{no_leap}
 use mathlib.Core.Path.{ap}

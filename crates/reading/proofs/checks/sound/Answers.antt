@@ -1,5 +1,4 @@
 -- `reading::checks::sound` meets its contract. Assumes nothing.
-use borrow.Author.Rules.{rules}
 use Rattle.reading.specs.Checks.{sound_of}
 use Rattle.reading.proofs.checks.sound.Goals as goal
 

@@ -1,5 +1,4 @@
 -- `reading::checks::time_bad` meets its contract. Assumes nothing.
-use borrow.Author.Rules.{rules}
 use Rattle.reading.specs.Checks.{time_bad}
 use Rattle.reading.proofs.checks.time_bad.Goals as goal
 

@@ -1,5 +1,4 @@
 -- `reading::checks::weekday_wrong` meets its contract. Assumes nothing.
-use borrow.Author.Rules.{rules}
 use Rattle.reading.specs.Checks.{weekday_wrong}
 use Rattle.reading.proofs.checks.weekday_wrong.Goals as goal
 

@@ -1,5 +1,4 @@
 -- `reading::faults::code_of` meets its contract, variant by variant. Assumes nothing.
-use borrow.Author.Rules.{rules}
 use Rattle.reading.proofs.faults.code_of.Goals as goal
 
 pub returns-in-Length : goal.returns-in-Length

@@ -1,5 +1,4 @@
 -- `reading::faults::refusal_of` meets its contract. Assumes nothing.
-use borrow.Author.Rules.{rules}
 use Rattle.reading.specs.Faults.{number}
 use Rattle.reading.proofs.faults.refusal_of.Goals as goal
 

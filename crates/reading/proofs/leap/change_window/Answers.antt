@@ -1,5 +1,4 @@
 -- `reading::leap::change_window` meets its contract. Assumes nothing.
-use borrow.Author.Rules.{rules}
 use Rattle.reading.specs.Leap.{change_window}
 use Rattle.reading.proofs.leap.change_window.Goals as goal
 

@@ -1,7 +1,6 @@
 -- `reading::leap::closes_with_leap` meets its contract. Assumes nothing.
 use mathlib.Core.Path.{ap}
 use lib.Dec.{eqb}
-use borrow.Author.Rules.{rules}
 use Rattle.reading.specs.Leap.{closes_with_leap}
 use Rattle.reading.proofs.leap.closes_with_leap.Goals as goal
 

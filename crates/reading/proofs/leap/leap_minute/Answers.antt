@@ -1,5 +1,4 @@
 -- `reading::leap::leap_minute` meets its contract. Assumes nothing.
-use borrow.Author.Rules.{rules}
 use borrow.Author.Tests.{eq-eqb, ne_eqb}
 use Rattle.reading.specs.Leap.{last_minute, leap_minute}
 use Rattle.reading.proofs.leap.leap_minute.Goals as goal

@@ -1,5 +1,4 @@
 -- `reading::leap::leap_window` meets its contract. Assumes nothing.
-use borrow.Author.Rules.{rules}
 use Rattle.reading.specs.Leap.{leap_window}
 use Rattle.reading.proofs.leap.leap_window.Goals as goal
 

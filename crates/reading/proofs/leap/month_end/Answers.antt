@@ -1,5 +1,4 @@
 -- `reading::leap::month_end` meets its contract. Assumes nothing.
-use borrow.Author.Rules.{rules}
 use Rattle.reading.proofs.leap.month_end.Goals as goal
 
 pub returns : goal.returns

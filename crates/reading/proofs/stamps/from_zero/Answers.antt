@@ -9,7 +9,6 @@ use lib.Signed.{mag}
 use mir.Syntax.{w64}
 use mir.Val.{SFits, to_z, of_z}
 use mir.Facts.{to_z-of_z, to_z_pos}
-use borrow.Author.Rules.{rules}
 use Rattle.reading.proofs.stamps.from_zero.Goals as goal
 
 -- a difference of two small numbers fits

@@ -2,7 +2,6 @@
 use mathlib.Core.Path.{sym, ap, ◌∙◌}
 use Prim.Native.Nat.{ℕ}
 use lib.IntN.{ℤ, sub_ℕ}
-use borrow.Author.Rules.{rules}
 use Rattle.reading.proofs.StampLaws.{number_of}
 use Rattle.reading.proofs.stamps.stamp_number.Goals as goal
 

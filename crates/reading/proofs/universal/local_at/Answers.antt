@@ -1,5 +1,4 @@
 -- `reading::universal::local_at` meets its contract. Assumes nothing.
-use borrow.Author.Rules.{rules}
 use Rattle.reading.specs.Universal.{local_at}
 use Rattle.reading.proofs.UtcLaws.{on_day_small}
 use Rattle.reading.proofs.universal.local_at.Goals as goal

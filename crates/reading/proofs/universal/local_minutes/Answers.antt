@@ -1,5 +1,4 @@
 -- `reading::universal::local_minutes` meets its contract. Assumes nothing.
-use borrow.Author.Rules.{rules}
 use native.Mathlib.Omega.{arith}
 use Rattle.reading.specs.Universal.{local_minutes}
 use Rattle.reading.proofs.universal.local_minutes.Goals as goal

@@ -1,5 +1,4 @@
 -- `reading::universal::shown_at` meets its contract. Assumes nothing.
-use borrow.Author.Rules.{rules}
 use mathlib.Core.Path.{refl}
 use Rattle.reading.specs.Universal.{shown_at}
 use Rattle.reading.proofs.universal.shown_at.Goals as goal

@@ -1,5 +1,4 @@
 -- `reading::universal::utc_minutes` meets its contract. Assumes nothing.
-use borrow.Author.Rules.{rules}
 use Rattle.reading.specs.Universal.{utc_minutes}
 use Rattle.reading.proofs.universal.utc_minutes.Goals as goal
 

@@ -1,5 +1,4 @@
 -- `reading::universal::utc_of` meets its contract. Assumes nothing.
-use borrow.Author.Rules.{rules}
 use Rattle.reading.specs.Universal.{utc_of}
 use Rattle.reading.proofs.universal.utc_of.Goals as goal
 

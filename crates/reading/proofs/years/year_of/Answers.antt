@@ -1,6 +1,5 @@
 -- `reading::years::year_of` meets its contract. Assumes nothing.
 use native.Mathlib.Omega.{arith}
-use borrow.Author.Rules.{rules}
 use borrow.Author.Tests.{eq-eqb, ne_eqb}
 use Rattle.reading.specs.Years.{first_year, year_of}
 use Rattle.reading.proofs.years.year_of.Goals as goal

@@ -1,5 +1,4 @@
 -- `summer::changes::announces_change` meets its contract. Assumes nothing.
-use borrow.Author.Rules.{rules}
 use Rattle.summer.specs.Changes.{announces_change}
 use Rattle.summer.proofs.changes.announces_change.Goals as goal
 

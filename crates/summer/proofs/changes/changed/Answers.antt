@@ -1,5 +1,4 @@
 -- `summer::changes::changed` meets its contract. Assumes nothing.
-use borrow.Author.Rules.{rules}
 use Rattle.summer.specs.Changes.{changed}
 use Rattle.summer.proofs.changes.changed.Goals as goal
 

@@ -1,5 +1,4 @@
 -- `summer::changes::days_until` meets its contract. Assumes nothing.
-use borrow.Author.Rules.{rules}
 use native.Mathlib.Omega.{arith}
 use mathlib.Core.Path.{sym}
 use Rattle.calendar.proofs.WeekdayLaws.{weekday_range}

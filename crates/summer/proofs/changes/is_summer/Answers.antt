@@ -1,7 +1,5 @@
 -- `summer::changes::is_summer` meets its contract. Assumes nothing.
-use borrow.Author.Rules.{rules}
-use borrow.Author.Tests.{not-true, not-false}
-use mathlib.Core.Path.{◌≡◌, sym, ◌∙◌}
+use mathlib.Core.Path.{sym, ◌∙◌}
 use Rattle.summer.specs.Changes.{is_summer}
 use Rattle.summer.proofs.changes.is_summer.Goals as goal
 

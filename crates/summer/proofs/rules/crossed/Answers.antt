@@ -1,5 +1,4 @@
 -- `summer::rules::crossed` meets its contract. Assumes nothing.
-use borrow.Author.Rules.{rules}
 use Rattle.summer.specs.Rules.{crossed}
 use Rattle.summer.proofs.rules.crossed.Goals as goal
 

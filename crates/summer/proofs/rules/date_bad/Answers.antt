@@ -1,5 +1,4 @@
 -- `summer::rules::date_bad` meets its contract. Assumes nothing.
-use borrow.Author.Rules.{rules}
 use Rattle.summer.specs.Rules.{date_bad}
 use Rattle.summer.proofs.rules.date_bad.Goals as goal
 

@@ -1,5 +1,4 @@
 -- `summer::rules::rule_bad` meets its contract. Assumes nothing.
-use borrow.Author.Rules.{rules}
 use Rattle.calendar.specs.Calendar.{leap_year}
 use Rattle.summer.specs.Rules.{rule_bad}
 use Rattle.summer.proofs.rules.rule_bad.Goals as goal

@@ -1,5 +1,4 @@
 -- `summer::rules::set_day_bad` meets its contract. Assumes nothing.
-use borrow.Author.Rules.{rules}
 use Rattle.summer.specs.Rules.{set_day_bad}
 use Rattle.summer.proofs.rules.set_day_bad.Goals as goal
 

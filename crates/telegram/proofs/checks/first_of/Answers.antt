@@ -1,5 +1,4 @@
 -- `telegram::checks::first_of` meets its contract. Assumes nothing.
-use borrow.Author.Rules.{rules}
 use Rattle.telegram.proofs.checks.first_of.Goals as goal
 
 pub returns-then-rule : goal.returns-then-rule

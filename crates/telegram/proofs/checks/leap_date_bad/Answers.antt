@@ -1,5 +1,4 @@
 -- `telegram::checks::leap_date_bad` meets its contract. Assumes nothing.
-use borrow.Author.Rules.{rules}
 use Rattle.telegram.specs.Faults.{leap_date_bad}
 use Rattle.telegram.proofs.checks.leap_date_bad.Goals as goal
 

@@ -1,5 +1,4 @@
 -- `telegram::checks::outside` meets its contract. Assumes nothing.
-use borrow.Author.Rules.{rules}
 use Rattle.telegram.specs.Faults.{outside}
 use Rattle.telegram.proofs.checks.outside.Goals as goal
 

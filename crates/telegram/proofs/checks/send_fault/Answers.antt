@@ -1,6 +1,4 @@
 -- `telegram::checks::send_fault` meets its contract. Assumes nothing.
-use borrow.Author.Rules.{rules}
-use borrow.Author.Tests.{not-true, not-false}
 use mathlib.Core.Path.{sym, ◌∙◌}
 use Rattle.dcf77.specs.Writer.{head_bad}
 use Rattle.telegram.specs.Faults.{fault_with}

@@ -1,5 +1,4 @@
 -- `telegram::checks::time_bad` meets its contract. Assumes nothing.
-use borrow.Author.Rules.{rules}
 use Rattle.telegram.specs.Faults.{time_bad}
 use Rattle.telegram.proofs.checks.time_bad.Goals as goal
 

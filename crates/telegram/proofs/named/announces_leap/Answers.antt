@@ -1,5 +1,4 @@
 -- `telegram::named::announces_leap` meets its contract. Assumes nothing.
-use borrow.Author.Rules.{rules}
 use Rattle.telegram.specs.Telegram.{announces_leap}
 use Rattle.telegram.proofs.named.announces_leap.Goals as goal
 

@@ -1,5 +1,4 @@
 -- `telegram::named::named_minute` meets its contract. Assumes nothing.
-use borrow.Author.Rules.{rules}
 use Rattle.telegram.specs.Telegram.{named_minute}
 use Rattle.telegram.proofs.named.named_minute.Goals as goal
 

@@ -1,5 +1,4 @@
 -- `telegram::named::telegram_reading` meets its contract. Assumes nothing.
-use borrow.Author.Rules.{rules}
 use mathlib.Core.Bool.{Bool}
 use mathlib.Core.Path.{◌≡◌}
 use Rattle.reading.specs.declared.Reading.{Reading}

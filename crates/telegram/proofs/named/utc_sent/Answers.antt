@@ -1,5 +1,4 @@
 -- `telegram::named::utc_sent` meets its contract. Assumes nothing.
-use borrow.Author.Rules.{rules}
 use mathlib.Core.Path.{refl}
 use Rattle.telegram.specs.Telegram.{utc_sent}
 use Rattle.telegram.proofs.named.utc_sent.Goals as goal

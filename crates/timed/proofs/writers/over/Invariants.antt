@@ -1,6 +1,6 @@
 -- `timed::writers::over` is safe and ends: every turn ends further on in the records. Whichever arm it was, the page is as long as
 -- before, which each call keeps (`.came`). Assumes nothing.
-use Rattle.std.proofs.Common.{◌≡◌, ◌-◌, ◌≤◌, length, ap, ⊎_elim, arith, rules}
+use Rattle.std.proofs.Common.{◌≡◌, ◌-◌, ◌≤◌, length}
 use Rattle.timed.proofs.writers.over.Given as goal
 
 abbrev pub invariant-loop-at : goal.invariant-loop-at

@@ -1,5 +1,5 @@
 -- `timed::writers::readings_in` is safe and ends: every turn ends further on in the records. Assumes nothing.
-use Rattle.std.proofs.Common.{◌≡◌, ◌-◌, ◌≤◌, length, arith, rules}
+use Rattle.std.proofs.Common.{◌-◌, ◌≤◌, length}
 use Rattle.timed.proofs.writers.readings_in.Given as goal
 
 abbrev pub invariant-loop-at : goal.invariant-loop-at

@@ -1,5 +1,5 @@
 -- `vectors::changes::try_changes` is safe and ends: the measure is what is left of the changes. Assumes nothing.
-use Rattle.std.proofs.Common.{◌≡◌, ◌-◌, length, arith, rules}
+use Rattle.std.proofs.Common.{◌≡◌, ◌-◌, length}
 use Rattle.vectors.proofs.changes.try_changes.Given as goal
 
 abbrev pub invariant-loop-change : goal.invariant-loop-change

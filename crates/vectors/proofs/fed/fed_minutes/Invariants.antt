@@ -1,5 +1,5 @@
 -- `vectors::fed::fed_minutes` is safe and ends: the measure is what is left of the symbols. Assumes nothing.
-use Rattle.std.proofs.Common.{◌-◌, ◌≤◌, length, arith, rules}
+use Rattle.std.proofs.Common.{◌-◌, ◌≤◌, length}
 use Rattle.vectors.proofs.fed.fed_minutes.Given as goal
 
 abbrev pub invariant-loop-i : goal.invariant-loop-i

@@ -1,5 +1,5 @@
 -- `vectors::fields::byte` meets its contract. Assumes nothing.
-use Rattle.std.proofs.Common.{ℕ, refl, rules}
+use Rattle.std.proofs.Common.{ℕ, refl}
 use lib.ListN.{get_or-eq_default}
 use Rattle.vectors.proofs.fields.byte.Goals as goal
 

@@ -1,5 +1,4 @@
 -- `vectors::fields::flag` meets its contract. Assumes nothing.
-use Rattle.std.proofs.Common.{rules}
 use Rattle.vectors.proofs.fields.flag.Goals as goal
 
 pub returns : goal.returns

@@ -1,5 +1,5 @@
 -- `vectors::fields::offset` meets its contract, by tests over every byte. Assumes nothing.
-use Rattle.std.proofs.Common.{◌≡◌, ℕ, ◌-◌, ◌<◌, ◌≤◌, ltb, arith, w8, to_z, rules, le-ltb}
+use Rattle.std.proofs.Common.{◌≡◌, ℕ, ◌-◌, ◌<◌, ◌≤◌, ltb, arith, w8, to_z, le-ltb}
 use Rattle.laws.proofs.Bools.{where_not, otherwise}
 use Rattle.laws.specs.Tests.{same}
 use Rattle.laws.proofs.Signed.{same_is}

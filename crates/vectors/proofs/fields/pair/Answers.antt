@@ -1,5 +1,5 @@
 -- `vectors::fields::pair` meets its contract. Assumes nothing.
-use Rattle.std.proofs.Common.{◌≡◌, ℕ, ◌+◌, ◌*◌, ◌≤◌, List, length, arith, rules}
+use Rattle.std.proofs.Common.{◌≡◌, ℕ, ◌+◌, ◌*◌, ◌≤◌, List, length, arith}
 use lib.ListN.{get_or-eq_default}
 use Rattle.vectors.specs.Payload.{byte_at, pair_at}
 use Rattle.vectors.proofs.fields.pair.Goals as goal

@@ -1,5 +1,5 @@
 -- `vectors::fields::reading_in` meets its contract, field by field. Assumes nothing.
-use Rattle.std.proofs.Common.{◌≡◌, ℕ, ap, ◌∙◌, rules}
+use Rattle.std.proofs.Common.{ℕ, ap, ◌∙◌}
 use Rattle.reading.specs.declared.LocalMinusUtc.{LocalMinusUtc}
 use Rattle.vectors.specs.Payload.{signed, reading_in}
 use Rattle.vectors.proofs.fields.reading_in.Goals as goal

@@ -1,5 +1,5 @@
 -- `vectors::listed::print_page` is safe and ends: the measure is what is left of the page. Assumes nothing.
-use Rattle.std.proofs.Common.{◌≡◌, ◌-◌, ◌≤◌, length, arith, length-set, length-take, rules}
+use Rattle.std.proofs.Common.{◌≡◌, ◌-◌, ◌≤◌, length}
 use Rattle.vectors.proofs.listed.print_page.Given as goal
 
 abbrev pub invariant-loop-i : goal.invariant-loop-i

@@ -1,5 +1,5 @@
 -- `vectors::print::print_hex` is safe and ends: the measure is what is left of the bytes. Assumes nothing.
-use Rattle.std.proofs.Common.{◌≡◌, ◌-◌, ◌≤◌, length, arith, length-set, length-take, rules, ltb-true}
+use Rattle.std.proofs.Common.{arith, length-set, ltb-true}
 use Rattle.vectors.proofs.print.print_hex.Goals as goal
 
 pub overflow_mul-text : goal.overflow_mul-text

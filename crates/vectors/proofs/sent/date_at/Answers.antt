@@ -1,5 +1,4 @@
 -- `vectors::sent::date_at` meets its contract. Assumes nothing.
-use Rattle.std.proofs.Common.{rules}
 use Rattle.vectors.specs.Payload.{date_at}
 use Rattle.vectors.proofs.sent.date_at.Goals as goal
 

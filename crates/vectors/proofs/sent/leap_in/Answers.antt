@@ -1,5 +1,4 @@
 -- `vectors::sent::leap_in` meets its contract. Assumes nothing.
-use Rattle.std.proofs.Common.{rules}
 use Rattle.vectors.specs.Payload.{leap_in}
 use Rattle.vectors.proofs.sent.leap_in.Goals as goal
 

@@ -1,5 +1,4 @@
 -- `vectors::sent::rule_in` meets its contract. Assumes nothing.
-use Rattle.std.proofs.Common.{rules}
 use Rattle.vectors.specs.Payload.{rule_in}
 use Rattle.vectors.proofs.sent.rule_in.Goals as goal
 

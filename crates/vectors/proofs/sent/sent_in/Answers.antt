@@ -1,5 +1,4 @@
 -- `vectors::sent::sent_in` meets its contract. Assumes nothing.
-use Rattle.std.proofs.Common.{rules}
 use Rattle.vectors.specs.Payload.{sent_in}
 use Rattle.vectors.proofs.sent.sent_in.Goals as goal
 

@@ -1,5 +1,4 @@
 -- `vectors::sent::set_day_at` meets its contract. Assumes nothing.
-use Rattle.std.proofs.Common.{rules}
 use Rattle.vectors.specs.Payload.{set_day_at}
 use Rattle.vectors.proofs.sent.set_day_at.Goals as goal
 

@@ -1,5 +1,5 @@
 -- `vectors::table::tabled` is safe and ends: the measure is what is left of the hundred places. Assumes nothing.
-use Rattle.std.proofs.Common.{◌-◌, ◌≤◌, arith, rules}
+use Rattle.std.proofs.Common.{◌-◌, ◌≤◌}
 use Rattle.vectors.proofs.table.tabled.Given as goal
 
 abbrev pub invariant-loop-i : goal.invariant-loop-i

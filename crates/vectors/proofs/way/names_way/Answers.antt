@@ -1,5 +1,4 @@
 -- `vectors::way::names_way` meets its contract. Assumes nothing.
-use Rattle.std.proofs.Common.{rules}
 use Rattle.vectors.specs.Payload.{names_way}
 use Rattle.vectors.proofs.way.names_way.Goals as goal
 

@@ -1,5 +1,5 @@
 -- `vectors::way::way_in` meets its contract. Assumes nothing.
-use Rattle.std.proofs.Common.{rules, ne_eqb}
+use Rattle.std.proofs.Common.{ne_eqb}
 use Rattle.vectors.specs.Payload.{way_in}
 use Rattle.vectors.proofs.way.way_in.Goals as goal
 

@@ -1,5 +1,4 @@
 -- `wire::digits::ones` meets its contract. Assumes nothing.
-use borrow.Author.Rules.{rules}
 use mathlib.Core.Path.{refl}
 use Rattle.wire.specs.Digits.{ones}
 use Rattle.wire.proofs.digits.ones.Goals as goal

@@ -1,5 +1,4 @@
 -- `wire::digits::tens` meets its contract. Assumes nothing.
-use borrow.Author.Rules.{rules}
 use mathlib.Core.Path.{refl}
 use Rattle.wire.specs.Digits.{tens}
 use Rattle.wire.proofs.digits.tens.Goals as goal

@@ -1,9 +1,6 @@
 -- `wire::layout::good_places` meets its contract. The invariant: no bad place has been passed. Assumes nothing.
 use native.Mathlib.Omega.{arith}
-use borrow.Author.Rules.{rules}
-use Prim.Native.Nat.{◌≤◌, ◌-◌}
 use Rattle.laws.proofs.Bools.{failed, passed}
-use Rattle.wire.specs.Layout.{good_places}
 use Rattle.wire.proofs.FirstBad.{one_more, stops_at, ends_at}
 use Rattle.wire.proofs.LayoutLaws.{good_leads}
 use mathlib.Core.Path.{ap}
