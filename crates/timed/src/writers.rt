@@ -24,43 +24,28 @@ fn readings_in(size: usize, records: &[u8]) -> [Reading; 600] {
     readings
 }
 
-// Each writer is lent as many bytes of the page as its record says.
-fn meinberg(base: u16, r: Reading, given: &[u8], page: &mut [u8]) -> u64
+fn write_by(base: u16, op: u8, r: Reading, given: &[u8], out: &mut [u8]) -> u64
     requires { 15 ≤ length given.now }
 {
-    let room = io::count(fields::signed(given[14]), page);
-    answers::of_written(Meinberg::write(base, r, fields::beside(given) != 0, &mut page[..room]))
+    let beside = fields::beside(given);
+    match op {
+        5 => answers::of_written(Meinberg::write(base, r, beside != 0, out)),
+        6 => answers::of_written(Erlangen::write(base, r, beside != 0, &given[15..], out)),
+        7 => answers::of_written(Ieee1344::write(base, r, out)),
+        8 => answers::of_written(Dcf77::write(base, r, beside, out)),
+        _ => beside as u64,
+    }
 }
 
-fn erlangen(base: u16, r: Reading, given: &[u8], page: &mut [u8]) -> u64
-    requires { 15 ≤ length given.now }
-{
+// A writer is lent as many bytes of the page as its record says.
+fn write_part(base: u16, op: u8, r: Reading, given: &[u8], page: &mut [u8]) -> u64 {
+    if given.len() < fields::LENGTH {
+        return 0;
+    }
     let room = io::count(fields::signed(given[14]), page);
-    answers::of_written(Erlangen::write(
-        base,
-        r,
-        fields::beside(given) != 0,
-        &given[15..],
-        &mut page[..room],
-    ))
+    write_by(base, op, r, given, &mut page[..room])
 }
 
-fn frame(base: u16, r: Reading, given: &[u8], page: &mut [u8]) -> u64
-    requires { 15 ≤ length given.now }
-{
-    let room = io::count(fields::signed(given[14]), page);
-    answers::of_written(Ieee1344::write(base, r, &mut page[..room]))
-}
-
-fn minute(base: u16, r: Reading, given: &[u8], page: &mut [u8]) -> u64
-    requires { 15 ≤ length given.now }
-{
-    let room = io::count(fields::signed(given[14]), page);
-    answers::of_written(Dcf77::write(base, r, fields::beside(given), &mut page[..room]))
-}
-
-// The arm that writes a reading takes it out of its place. Taken out before the choice, it would be taken apart for all four
-// writers in turn, which is work of this loop and of none of them.
 pub(crate) fn over(base: u16, op: u8, size: usize, records: &[u8], page: &mut [u8]) -> u64 {
     let readings = readings_in(size, records);
     let mut sum: u64 = 0;
@@ -68,18 +53,8 @@ pub(crate) fn over(base: u16, op: u8, size: usize, records: &[u8], page: &mut [u
     let mut at = 0;
     while at < records.len() && n < 600 {
         let end = end_of(at, size, records.len());
-        let given = &records[at..end];
-        if given.len() < fields::LENGTH {
-            return sum;
-        }
-        let part = match op {
-            5 => meinberg(base, readings[n], given, page),
-            6 => erlangen(base, readings[n], given, page),
-            7 => frame(base, readings[n], given, page),
-            8 => minute(base, readings[n], given, page),
-            _ => fields::beside(given) as u64,
-        };
-        sum = wrapping_add_u64(sum, part);
+        let r = readings[n];
+        sum = wrapping_add_u64(sum, write_part(base, op, r, &records[at..end], page));
         n += 1;
         at = end;
     }
