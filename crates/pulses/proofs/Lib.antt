@@ -9,3 +9,10 @@ pub mod TripLaws
 pub mod OnesLaws
 pub mod Unique
 pub mod OutlineLaws
+pub mod TotalLaws
+pub mod TagLaws
+pub mod PartLaws
+pub mod FillLaws
+pub mod CellLaws
+pub mod BoardLaws
+pub mod LayingLaws

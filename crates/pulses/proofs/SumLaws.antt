@@ -63,7 +63,7 @@ pub record Gathered (t s v : List ℕ) (i : ℕ) : Type 0 where
   pub holds : (g : ℕ) → get_or v g 0 ≡ sum_of t (take i s) g
   pub small : (g : ℕ) → get_or v g 0 ≤ 1048575 * i
 
-zeros : (n g : ℕ) → ◌≡◌ {A = ℕ} (get_or (replicate n 0) g 0) 0
+pub zeros : (n g : ℕ) → ◌≡◌ {A = ℕ} (get_or (replicate n 0) g 0) 0
 zeros zero g = refl
 zeros (suc n) zero = refl
 zeros (suc n) (suc g) = zeros n g

@@ -5,6 +5,12 @@ use contract.Lifetimes.{Lfts}
 use denote.Triple.Clauses.{AtExit}
 use mathlib.Core.Path.{◌≡◌}
 use Rattle.laws.proofs.Coincide.{Coincide}
+use Rattle.pulses.proofs.tags.good.Kinds as good-kinds
+use Rattle.pulses.proofs.tags.good.Reads as good-reads
+use Rattle.pulses.proofs.tags.sums.Kinds as tag-sums-kinds
+use Rattle.pulses.proofs.tags.sums.Reads as tag-sums-reads
+use Rattle.pulses.proofs.laying.lay.Kinds as tag-lay-kinds
+use Rattle.pulses.proofs.laying.lay.Reads as tag-lay-reads
 use Rattle.pulses.proofs.outline.outlined.Kinds as outlined-kinds
 use Rattle.pulses.proofs.outline.outlined.Reads as outlined-reads
 use Rattle.pulses.proofs.group_of.Reads as group-of-reads
@@ -43,3 +49,14 @@ outlined_one κs a x y e f p q = cc
 
 pub bit_one : Coincide 0 bit-kinds.ps bit-kinds.r bit-reads.Post
 bit_one κs a x y e f p q = cc
+
+pub good_one : Coincide 2 good-kinds.ps good-kinds.r good-reads.Post
+good_one κs a x y e f p q = cc
+
+pub sums_one : Coincide 2 tag-sums-kinds.ps tag-sums-kinds.r tag-sums-reads.Post
+sums_one κs a x y e f p q = cc
+
+pub laying_lay_one : (κs : Lfts 2) (a : Dens κs tag-lay-kinds.ps) (x y : (res_t tag-lay-kinds.r κs).Denot)
+    (e f : AtExit (ended_of 2 tag-lay-kinds.ps tag-lay-kinds.r) κs)
+    → tag-lay-reads.Post κs a x e → tag-lay-reads.Post κs a y f → (x ≡ y) × (e.0.now ≡ f.0.now)
+laying_lay_one κs a x y e f p q = (cc, cc)

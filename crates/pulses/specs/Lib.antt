@@ -1,2 +1,4 @@
 pub mod Row
 pub mod Outline
+pub mod Tags
+pub mod Laying

@@ -1,8 +1,11 @@
 // A row of pulses, driven by a table that the caller lends: which pulses are good, what their groups add up to, the
-// row that says given values, and the count of ones. Every function takes any slices and any numbers.
+// row that says given values, and the count of ones. Every function takes any slices and any numbers. `tags` and `laying` do the
+// same work by a column of bytes, the tags of a table.
 #![tactic(auto)]
 
+pub mod laying;
 pub mod outline;
+pub mod tags;
 
 ghost use Rattle.std.specs.Prelude.{◌≡◌, ◌+◌, ◌*◌, ◌%◌, ◌<◌, ◌≤◌, min, length};
 ghost use Rattle.std.specs.Int.Count as Count;
