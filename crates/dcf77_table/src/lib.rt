@@ -1,11 +1,16 @@
 // The tables of the marks of a DCF77 minute, of its 60 and of its 61, and the row of marks that they drive.
 #![tactic(auto)]
 
+mod tags;
+
 ghost use Rattle.std.specs.Prelude.{◌≡◌};
-ghost use Rattle.pulses.specs.Row.{scan_of, fits_in, laid};
+ghost use Rattle.pulses.specs.Row.{good_pulses, sums_of, scan_of, fits_in, laid};
+ghost use Rattle.pulses.specs.Tags.{tag_sums};
+ghost use Rattle.dcf77_table.specs.Tags.{tags};
 ghost use Rattle.dcf77_table.specs.Table.{minute_marks};
 
 use pulses::Scan;
+use tags::{LONG_TAGS, TAGS};
 
 // The place of each group of data among the values.
 pub mod groups {
@@ -56,16 +61,50 @@ pub fn scanned(long: bool, minute: &[u8]) -> Scan
     pulses::scanned(&MARKS, minute)
 }
 
+// How many marks of a minute are good, up to the first that is not.
+pub fn good(long: bool, minute: &[u8]) -> usize
+    ensures { result ≡ good_pulses (minute_marks long) minute.now }
+{
+    if long {
+        return pulses::tags::good(&LONG_TAGS, minute);
+    }
+    pulses::tags::good(&TAGS, minute)
+}
+
+fn part_sums(long: bool, minute: &[u8]) -> [u32; 32]
+    ensures { result ≡ tag_sums (tags long) minute.now }
+{
+    if long {
+        return pulses::tags::sums(&LONG_TAGS, minute);
+    }
+    pulses::tags::sums(&TAGS, minute)
+}
+
+// What each group of the marks adds up to: the upper part of the head is joined to it.
+pub fn sums(long: bool, minute: &[u8]) -> [u32; 32]
+    ensures { result ≡ sums_of (minute_marks long) minute.now }
+{
+    let mut v = part_sums(long, minute);
+    v[groups::HEAD] = v[groups::HEAD] + 256 * v[UPPER];
+    v[UPPER] = 0;
+    v
+}
+
 // Stores the minute whose groups say the values from the start of `out`, where it fits.
 pub fn lay(out: &mut [u8], long: bool, values: [u32; 32]) -> bool
     ensures value { result ≡ fits_in (minute_marks long) out.old }
     ensures out_after { out.new ≡ laid (minute_marks long) values out.old }
 {
+    let mut said = values;
+    said[UPPER] = said[groups::HEAD] / 256;
     if long {
-        return pulses::lay(out, &LONG_MARKS, values);
+        return pulses::laying::lay(out, &LONG_TAGS, said);
     }
-    pulses::lay(out, &MARKS, values)
+    pulses::laying::lay(out, &TAGS, said)
 }
+
+// The part that the marks of the head from 256 on have.
+const UPPER: usize = 21;
 
 const UNIT: u32 = 134217728;
 

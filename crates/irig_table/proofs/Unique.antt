@@ -5,6 +5,10 @@ use contract.Lifetimes.{Lfts}
 use denote.Triple.Clauses.{AtExit}
 use mathlib.Core.Path.{◌≡◌}
 use Rattle.laws.proofs.Coincide.{Coincide}
+use Rattle.irig_table.proofs.good.Kinds as good-kinds
+use Rattle.irig_table.proofs.good.Reads as good-reads
+use Rattle.irig_table.proofs.sums.Kinds as sums-kinds
+use Rattle.irig_table.proofs.sums.Reads as sums-reads
 use Rattle.irig_table.proofs.pulse_at.Reads as pulse-at-reads
 use Rattle.irig_table.proofs.pulse_at.Kinds as pulse-at-kinds
 use Rattle.irig_table.proofs.scanned.Reads as scanned-reads
@@ -28,3 +32,9 @@ pub lay_one : (κs : Lfts 1) (a : Dens κs lay-kinds.ps) (x y : (res_t lay-kinds
     (e f : AtExit (ended_of 1 lay-kinds.ps lay-kinds.r) κs)
     → lay-reads.Post κs a x e → lay-reads.Post κs a y f → (x ≡ y) × (e.0.now ≡ f.0.now)
 lay_one κs a x y e f p q = (cc, cc)
+
+pub good_one : Coincide 1 good-kinds.ps good-kinds.r good-reads.Post
+good_one κs a x y e f p q = cc
+
+pub sums_one : Coincide 1 sums-kinds.ps sums-kinds.r sums-reads.Post
+sums_one κs a x y e f p q = cc

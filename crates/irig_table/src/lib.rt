@@ -1,13 +1,16 @@
 // The table of pulses of an IEEE 1344 frame, and the row of pulses that it drives.
 #![tactic(auto)]
 
+mod tags;
+
 ghost use Rattle.std.specs.Prelude.{◌≡◌, ◌<◌, ◌≤◌, get_or};
 ghost use Rattle.pulses.specs.Outline.{outline_of};
-ghost use Rattle.pulses.specs.Row.{scan_of, fits_in, laid};
+ghost use Rattle.pulses.specs.Row.{good_pulses, sums_of, scan_of, fits_in, laid};
 ghost use Rattle.irig_table.specs.Table.{frame_pulses};
 ghost use Rattle.irig_table.specs.Paper.{field_of, factor_of, pulse_at};
 
 use pulses::Scan;
+use tags::TAGS;
 
 // What a pulse stands for: one of the paper's fields, and how much it weighs in it.
 #[derive(Clone, Copy)]
@@ -23,6 +26,25 @@ pub fn scanned(frame: &[u8]) -> Scan
     pulses::scanned(&PULSES, frame)
 }
 
+// How many pulses of a frame are good, up to the first that is not.
+pub fn good(frame: &[u8]) -> usize
+    ensures { result ≡ good_pulses frame_pulses frame.now }
+{
+    pulses::tags::good(&TAGS, frame)
+}
+
+// What each group of the pulses adds up to: the parts of the second of the day are joined to it.
+pub fn sums(frame: &[u8]) -> [u32; 32]
+    ensures { result ≡ sums_of frame_pulses frame.now }
+{
+    let mut v = pulses::tags::sums(&TAGS, frame);
+    v[SECOND_OF_DAY_GROUP] = v[SECOND_OF_DAY_GROUP] + 256 * v[UPPER];
+    v[UPPER] = 0;
+    v[SECOND_OF_DAY_GROUP] = v[SECOND_OF_DAY_GROUP] + 65536 * v[TOP];
+    v[TOP] = 0;
+    v
+}
+
 // Whether a frame has its outline: marks exactly where due, and 0 or 1 elsewhere.
 pub fn outlined(frame: &[u8]) -> bool
     ensures { result ≡ outline_of frame_pulses frame.now }
@@ -35,7 +57,10 @@ pub fn lay(out: &mut [u8], values: [u32; 32]) -> bool
     ensures value { result ≡ fits_in frame_pulses out.old }
     ensures out_after { out.new ≡ laid frame_pulses values out.old }
 {
-    pulses::lay(out, &PULSES, values)
+    let mut said = values;
+    said[UPPER] = said[SECOND_OF_DAY_GROUP] / 256;
+    said[TOP] = said[SECOND_OF_DAY_GROUP] / 65536;
+    pulses::laying::lay(out, &TAGS, said)
 }
 
 // Field and weight of the pulse at a place, as the paper's table has them; beyond the frame, a pulse that is always 0.
@@ -77,6 +102,13 @@ fn factor_of(group: usize) -> u32
     }
     FACTORS[group]
 }
+
+// The group of the second of the day, and the parts that its pulses from 256 on and from 65536 on have.
+const SECOND_OF_DAY_GROUP: usize = 23;
+
+const UPPER: usize = 24;
+
+const TOP: usize = 25;
 
 // the field of each group
 const FIELDS: [u8; 24] = [

@@ -1,0 +1,16 @@
+-- `dcf77_table::good` meets its contract: the tags that it lends are the tables'. Assumes nothing.
+use mathlib.Core.Bool.{true, false}
+use Rattle.pulses.specs.Row.{group_of, weight_of}
+use Rattle.pulses.specs.Tags.{total, part_of, digit_at, tag_of}
+use Rattle.dcf77_table.specs.Table.{shared_marks, last_marks, minute_marks}
+use Rattle.dcf77_table.specs.Tags.{tags}
+use Rattle.dcf77_table.proofs.TagLaws.{marks_good}
+use Rattle.dcf77_table.proofs.good.Goals as goal
+
+pub returns-then-long : goal.returns-then-long
+unfolding digit_at group_of last_marks minute_marks part_of shared_marks tag_of tags total weight_of
+returns-then-long c = rw c.if-long.true (marks_good true _ _ c.good.ensures)
+
+pub returns : goal.returns
+unfolding digit_at group_of last_marks minute_marks part_of shared_marks tag_of tags total weight_of
+returns c = rw c.if-long.false (marks_good false _ _ c.good-2.ensures)
