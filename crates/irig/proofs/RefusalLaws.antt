@@ -1,17 +1,18 @@
 -- The first refusals of the reader: a wrong length, and the lowest place whose byte is not allowed there.
-use mathlib.Core.Path.{◌≡◌}
+use mathlib.Core.Path.{◌≡◌, ◌∙◌}
 use mathlib.Core.Bool.{true, false}
 use mathlib.Core.List.{List}
 use Prim.Native.Nat.{ℕ, ◌<◌, ◌≤◌}
 use native.Mathlib.Omega.{arith}
 use borrow.Author.Tests.{eq-eqb, ne_eqb, lt-ltb, le-ltb}
-use lib.ListN.{length}
+use lib.ListN.{length, get_or}
 use Rattle.reading.specs.declared.Fault.TheVariants.{Length, Byte, OtherBase}
 use Rattle.reading.specs.Faults.{number}
 use Rattle.reading.specs.Years.{is_base}
 use Rattle.pulses.specs.declared.Scan.{Scan}
-use Rattle.pulses.specs.Row.{good_pulses, sums_of, scan_of}
+use Rattle.pulses.specs.Row.{group_of, good_pulses, sums_of, scan_of}
 use Rattle.pulses.proofs.GoodLaws.{allowed_at, first_bad}
+use Rattle.pulses.proofs.EntryLaws.{fixed_allowed}
 use Rattle.pulses.proofs.ScanLaws.{scan_good, scan-sums}
 use Rattle.irig_table.specs.Table.{frame_pulses}
 use Rattle.irig_table.proofs.TableLaws.{frame_length_lem}
@@ -55,3 +56,10 @@ module _ (base : ℕ) (s : List ℕ) (long : length s ≡ frame_length) (based :
   lowest_bad_place i h before here =
       let e = first_bad frame_pulses s i (omega (arith, frame_length_lem)) (omega arith) before here in
       rw e at (bad_pulse (omega arith))
+
+  -- the first of all: a frame begins with a mark
+  pub no_mark : (get_or s 0 0 ≡ 2 → ⊥) → read_frame base s ≡ No (number (Byte 0))
+  unfolding frame_pulses group_of
+  no_mark d =
+      lowest_bad_place 0 (omega arith) (λ j h. absurd (omega arith))
+      (fixed_allowed (get_or frame_pulses 0 0) (get_or s 0 0) (omega arith) ∙ ne_eqb (get_or s 0 0) 2 d)

@@ -1,7 +1,8 @@
 // The IEEE 1344 frame, a hundred pulses that say a time: its reader and its writer. Both take any base, any bytes and any reading.
 #![tactic(auto)]
 
-ghost use Rattle.std.specs.Prelude.{◌≡◌, length};
+ghost use Rattle.std.specs.Prelude.{◌≡◌, true, length};
+ghost use Rattle.reading.specs.Years.{is_base};
 ghost use Rattle.reading.specs.Writing.{written_of, filled};
 ghost use Rattle.irig.specs.Faults.{frame_length, answer_of, read_frame};
 ghost use Rattle.irig.specs.Writing.{frame_of, write_fault};
@@ -14,6 +15,9 @@ mod faults;
 mod fields;
 mod groups;
 mod offset;
+
+// The first pulse of a frame is a mark.
+const MARK: u8 = 2;
 
 // What the reader answers: the time, or why there is none.
 #[derive(Clone, Copy)]
@@ -42,14 +46,11 @@ impl Ieee1344 {
         if !is_base(base) {
             return Answer::No(refusal_of(Fault::OtherBase));
         }
-        let scan = irig_table::scanned(s);
-        let good = scan.good;
-        if good <= Ieee1344::LAST {
-            return Answer::No(refusal_of(Fault::Byte(good)));
+        // seen first, as a frame that is out of step is refused by it
+        if s[0] != MARK {
+            return Answer::No(refusal_of(Fault::Byte(0)));
         }
-        let v = scan.sums;
-        let r = fields::reading_of(base, v);
-        told(faults::values_fault(base, v, r, faults::is_odd(s)), r)
+        whole(base, s)
     }
 
     pub fn write(base: u16, r: Reading, out: &mut [u8]) -> Written
@@ -73,4 +74,18 @@ fn told(verdict: Verdict, r: Reading) -> Answer
         Verdict::Good => Answer::Time(r),
         Verdict::Bad(fault) => Answer::No(refusal_of(fault)),
     }
+}
+
+// What is read of a hundred pulses; the early refusals stand before it.
+fn whole(base: u16, s: &[u8]) -> Answer
+    requires { (length s.now ≡ frame_length) × (is_base base ≡ true) }
+    ensures { result ≡ read_frame base s.now }
+{
+    let good = irig_table::good(s);
+    if good <= Ieee1344::LAST {
+        return Answer::No(refusal_of(Fault::Byte(good)));
+    }
+    let v = irig_table::sums(s);
+    let r = fields::reading_of(base, v);
+    told(faults::values_fault(base, v, r, faults::is_odd(s)), r)
 }
