@@ -13,3 +13,4 @@ pub mod StandIns
 pub mod Worked
 pub mod Unique
 pub mod OwedLaws
+pub mod SaidLaws

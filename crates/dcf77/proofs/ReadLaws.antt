@@ -5,7 +5,7 @@ use mathlib.Core.Path.{◌≡◌, refl, sym, ◌∙◌}
 use Prim.Native.Nat.{ℕ, ◌<◌, ◌≤◌}
 use native.Mathlib.Omega.{arith}
 use native.Mathlib.Nat.{le_antisymm, lt_of_lt_of_le}
-use borrow.Author.Tests.{lt-ltb, le-ltb, ltb-false, eqb-true, not-false}
+use borrow.Author.Tests.{eq-eqb, ne_eqb, lt-ltb, le-ltb, ltb-false, eqb-true, not-false}
 use lib.Dec.{ltb, eqb, lit≤}
 use lib.ListN.{length, get_or}
 use Rattle.reading.specs.declared.Reading.{Reading}
@@ -17,17 +17,72 @@ use Rattle.reading.specs.Faults.{number}
 use Rattle.reading.specs.Years.{is_base}
 use Rattle.reading.proofs.CheckLaws.{first_good, clash}
 use Rattle.pulses.specs.declared.Scan.{Scan}
-use Rattle.pulses.specs.Row.{good_pulses, scan_of}
+use Rattle.pulses.specs.Row.{group_of, pulse_allowed, good_pulses, sums_of, scan_of}
 use Rattle.pulses.proofs.ScanLaws.{scan_good, scan-sums}
-use Rattle.pulses.proofs.GoodLaws.{good_in_row}
-use Rattle.dcf77_table.specs.Table.{head, minute_marks}
+use Rattle.pulses.proofs.EntryLaws.{fixed_allowed}
+use Rattle.pulses.proofs.GoodLaws.{good_in_row, first_bad}
+use Rattle.dcf77_table.specs.Table.{head, shared_marks, minute_marks}
 use Rattle.dcf77_table.specs.Values.{Proper}
+use Rattle.dcf77_table.proofs.TableLaws.{marks-length, long_enough}
 use Rattle.dcf77_table.proofs.ValueLaws.{few, said_proper, head_small}
 use Rattle.dcf77.specs.declared.Answer.{Answer}
 use Rattle.dcf77.specs.declared.Answer.TheVariants.{Time, No}
 use Rattle.dcf77.specs.Forms.{short_length, long_length, length_of}
 use Rattle.dcf77.specs.Reader.{is_long, table_for, says, reading_of, length_bad, said_fault, read_fault, answer_of, read_dcf77}
 use Rattle.dcf77.proofs.SoundLaws.{Sound, sound, faultless}
+
+-- ---- the form that a length has
+
+pub form_length : (n : ℕ) → length_bad n ≡ false → n ≡ length_of (is_long n)
+unfolding length_bad length_of is_long
+form_length n e = go (eqb n long_length) refl
+  where
+    go : (b : Bool) → eqb n long_length ≡ b → n ≡ cond b long_length short_length
+    go true p = eqb-true n long_length p
+    go false p = eqb-true n short_length (or_left (eqb n short_length) (eqb n long_length) (not-false _ e) p)
+      where
+        or_left : (a b : Bool) → (a || b) ≡ true → b ≡ false → a ≡ true
+        or_left true b q k = refl
+        or_left false b q k = sym k ∙ q
+
+form_marks : (long : Bool) → length_of long ≡ length (minute_marks long)
+unfolding length_of
+form_marks true = sym (marks-length true)
+form_marks false = sym (marks-length false)
+
+-- the form, where the length is asked
+pub is_long_lem : (n : ℕ) → n ≡ long_length → true ≡ is_long n
+unfolding is_long
+is_long_lem n e = sym (eq-eqb n long_length e)
+
+pub is_short : (n : ℕ) → (n ≡ long_length → ⊥) → false ≡ is_long n
+unfolding is_long
+is_short n d = sym (ne_eqb n long_length d)
+
+pub some_marks : (s : List ℕ) → length_bad (length s) ≡ false → 0 < length s
+some_marks s e = omega (arith, form_length (length s) e, form_marks (is_long (length s)), long_enough (is_long (length s)))
+
+-- ---- what is found in the marks by their tags
+
+module _ (s : List ℕ) (long : Bool) (form : long ≡ is_long (length s)) where
+  pub good_found : (n : ℕ) → n ≡ good_pulses (minute_marks long) s → n ≡ good_pulses (table_for s) s
+  unfolding table_for
+  good_found n e = rw (← form) e
+
+  module _ (v : List ℕ) (e : v ≡ sums_of (minute_marks long) s) where
+    pub says_found : v ≡ says s
+    unfolding table_for says
+    says_found = rw (← form) e
+
+    pub proper_found : Proper v
+    proper_found = rw e (said_proper long s)
+
+    pub head_found : get_or v head 0 < 65536
+    head_found = rw e (lt_of_lt_of_le (head_small long s) (lit≤ tt))
+
+begins : (long : Bool) (b : ℕ) → (b ≡ 0 → ⊥) → pulse_allowed (get_or (minute_marks long) 0 0) b ≡ false
+unfolding minute_marks shared_marks group_of
+begins long b d = fixed_allowed (get_or (minute_marks long) 0 0) b (omega arith) ∙ ne_eqb b 0 d
 
 -- ---- what a pass over the marks has found
 
@@ -69,6 +124,14 @@ module _ (base : ℕ) (s : List ℕ) where
         let l : good_pulses (table_for s) s < length s = omega arith in
         rw (e, g, lt-ltb (good_pulses (table_for s) s) (length s) l, p, q)
 
+    -- the first of all: a minute begins with a 0
+    pub no_zero : (n : Refusal) → (get_or s 0 0 ≡ 0 → ⊥) → n ≡ number (Byte 0) → No n ≡ read_dcf77 base s
+    unfolding table_for is_long length_bad
+    no_zero n d p =
+        let f = form_length (length s) e ∙ form_marks (is_long (length s)) in
+        let z = first_bad (table_for s) s 0 (omega (arith, long_enough (is_long (length s)))) (omega (arith, long_enough (is_long (length s)))) (λ j h. absurd (omega arith)) (begins (is_long (length s)) (get_or s 0 0) d) in
+        wrong-mark 0 n (sym z) (omega (arith, long_enough (is_long (length s)))) p
+
     pub marks-told : (v : List ℕ) (r : Reading) (f : Verdict) (a : Answer) → length s ≤ good_pulses (table_for s) s → v ≡ says s
         → r ≡ reading_of base v → f ≡ said_fault s v r → a ≡ answer_of f r (get_or v head 0) → a ≡ read_dcf77 base s
     unfolding read_dcf77 read_fault
@@ -88,18 +151,6 @@ pub record Read (base : ℕ) (s : List ℕ) (r : Reading) (h : ℕ) : Type 0 whe
 time_of : (f : Verdict) (q r : Reading) (i h : ℕ) → answer_of f q i ≡ Time r h → (f ≡ Good) × (q ≡ r) × (i ≡ h)
 time_of Good q r i h e = (refl, cc, cc)
 time_of (Bad x) q r i h e = let z : ◌≡◌ {A = ℕ} 0 1 = cc in clash z
-
-pub form_length : (n : ℕ) → length_bad n ≡ false → n ≡ length_of (is_long n)
-unfolding length_bad length_of is_long
-form_length n e = go (eqb n long_length) refl
-  where
-    go : (b : Bool) → eqb n long_length ≡ b → n ≡ cond b long_length short_length
-    go true p = eqb-true n long_length p
-    go false p = eqb-true n short_length (or_left (eqb n short_length) (eqb n long_length) (not-false _ e) p)
-      where
-        or_left : (a b : Bool) → (a || b) ≡ true → b ≡ false → a ≡ true
-        or_left true b q k = refl
-        or_left false b q k = sym k ∙ q
 
 module _ (base : ℕ) (s : List ℕ) (r : Reading) (h : ℕ) where
   pub read_is : read_dcf77 base s ≡ Time r h → Read base s r h

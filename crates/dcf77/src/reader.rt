@@ -1,9 +1,11 @@
 // The reader: what the marks of a minute say, checked in the order of the codes and, within one code, of the places.
-ghost use Rattle.std.specs.Prelude.{◌≡◌, ◌+◌, ◌*◌, ◌<◌, ◌≤◌};
+ghost use Rattle.std.specs.Prelude.{◌≡◌, true, false, ◌+◌, ◌*◌, ◌<◌, ◌≤◌, length};
+ghost use Rattle.reading.specs.Years.{is_base};
 ghost use Rattle.dcf77_table.specs.Values.{Proper};
 ghost use Rattle.dcf77.specs.Forms.{last_of};
 ghost use Rattle.dcf77.specs.Zones.{zone_bad};
 ghost use Rattle.dcf77.specs.Reader.{
+  is_long,
   length_bad,
   reading_of,
   digit_fault,
@@ -16,7 +18,7 @@ ghost use Rattle.dcf77.specs.Reader.{
   read_dcf77,
 };
 
-use super::rules::{and_then, due_long, first, places};
+use super::rules::{due_long, places};
 use super::zones::{offset_in, zone_of};
 use super::{Answer, Dcf77};
 use calendar::months::is_month;
@@ -64,12 +66,22 @@ fn reading_of(base: u16, v: [u32; 32]) -> Reading
 fn digit_fault(v: [u32; 32]) -> Verdict
     ensures { result ≡ digit_fault v }
 {
-    let year = (9 < v[groups::YEARS]) | (9 < v[groups::TENS_OF_YEARS]);
-    let rest = first(year, Fault::Digit(places::YEAR), Verdict::Good);
-    let rest = first(9 < v[groups::MONTHS], Fault::Digit(places::MONTH), rest);
-    let rest = first(9 < v[groups::DAYS], Fault::Digit(places::DAY), rest);
-    let rest = first(9 < v[groups::HOURS], Fault::Digit(places::HOUR), rest);
-    first(9 < v[groups::MINUTES], Fault::Digit(places::MINUTE), rest)
+    if 9 < v[groups::MINUTES] {
+        return Verdict::Bad(Fault::Digit(places::MINUTE));
+    }
+    if 9 < v[groups::HOURS] {
+        return Verdict::Bad(Fault::Digit(places::HOUR));
+    }
+    if 9 < v[groups::DAYS] {
+        return Verdict::Bad(Fault::Digit(places::DAY));
+    }
+    if 9 < v[groups::MONTHS] {
+        return Verdict::Bad(Fault::Digit(places::MONTH));
+    }
+    if (9 < v[groups::YEARS]) | (9 < v[groups::TENS_OF_YEARS]) {
+        return Verdict::Bad(Fault::Digit(places::YEAR));
+    }
+    Verdict::Good
 }
 
 // Whether the ones of the marks between two places, both of them included, are odd in number.
@@ -83,23 +95,37 @@ fn odd(s: &[u8], from: usize, to: usize) -> bool
 fn parity_fault(s: &[u8]) -> Verdict
     ensures { result ≡ parity_fault s.now }
 {
-    let date = odd(s, places::DAY, places::DATE_PARITY);
-    let hour = odd(s, places::HOUR, places::HOUR_PARITY);
-    let minute = odd(s, places::MINUTE, places::MINUTE_PARITY);
-    let rest = first(date, Fault::Parity(places::DATE_PARITY), Verdict::Good);
-    let rest = first(hour, Fault::Parity(places::HOUR_PARITY), rest);
-    first(minute, Fault::Parity(places::MINUTE_PARITY), rest)
+    if odd(s, places::MINUTE, places::MINUTE_PARITY) {
+        return Verdict::Bad(Fault::Parity(places::MINUTE_PARITY));
+    }
+    if odd(s, places::HOUR, places::HOUR_PARITY) {
+        return Verdict::Bad(Fault::Parity(places::HOUR_PARITY));
+    }
+    if odd(s, places::DAY, places::DATE_PARITY) {
+        return Verdict::Bad(Fault::Parity(places::DATE_PARITY));
+    }
+    Verdict::Good
 }
 
 fn field_fault(r: Reading, w: u32) -> Verdict
     ensures { result ≡ field_fault r w }
 {
-    let month = !is_month(r.month);
-    let rest = first(month, Fault::Date(places::MONTH), Verdict::Good);
-    let rest = first(w == 0, Fault::Date(places::WEEKDAY), rest);
-    let rest = first(day_bad(r), Fault::Date(places::DAY), rest);
-    let rest = first(hour_bad(r.hour), Fault::Time(places::HOUR), rest);
-    first(minute_bad(r.minute), Fault::Time(places::MINUTE), rest)
+    if minute_bad(r.minute) {
+        return Verdict::Bad(Fault::Time(places::MINUTE));
+    }
+    if hour_bad(r.hour) {
+        return Verdict::Bad(Fault::Time(places::HOUR));
+    }
+    if day_bad(r) {
+        return Verdict::Bad(Fault::Date(places::DAY));
+    }
+    if w == 0 {
+        return Verdict::Bad(Fault::Date(places::WEEKDAY));
+    }
+    if !is_month(r.month) {
+        return Verdict::Bad(Fault::Date(places::MONTH));
+    }
+    Verdict::Good
 }
 
 fn zone_bad(z: u32) -> bool
@@ -120,22 +146,33 @@ fn last_of(long: bool) -> usize
 fn rule_fault(r: Reading, w: u32, z: u32, long: bool) -> Verdict
     ensures { result ≡ rule_fault r w z long }
 {
-    let against = long != due_long(r);
-    let rest = first(against, Fault::LeapSecond(last_of(long)), Verdict::Good);
-    let rest = first(zone_bad(z), Fault::Offset(places::ZONE), rest);
-    first(weekday_wrong(r, w), Fault::Weekday(places::WEEKDAY), rest)
+    if weekday_wrong(r, w) {
+        return Verdict::Bad(Fault::Weekday(places::WEEKDAY));
+    }
+    if zone_bad(z) {
+        return Verdict::Bad(Fault::Offset(places::ZONE));
+    }
+    if long != due_long(r) {
+        return Verdict::Bad(Fault::LeapSecond(last_of(long)));
+    }
+    Verdict::Good
 }
 
 // What is wrong with marks that are good one by one.
 fn said_fault(s: &[u8], v: [u32; 32], r: Reading) -> Verdict
     ensures { result ≡ said_fault s.now v r }
 {
+    if let Verdict::Bad(fault) = digit_fault(v) {
+        return Verdict::Bad(fault);
+    }
+    if let Verdict::Bad(fault) = parity_fault(s) {
+        return Verdict::Bad(fault);
+    }
     let w = v[groups::WEEKDAY];
-    let long = s.len() == Dcf77::LONG_LENGTH;
-    let rest = rule_fault(r, w, v[groups::ZONE], long);
-    let rest = and_then(field_fault(r, w), rest);
-    let rest = and_then(parity_fault(s), rest);
-    and_then(digit_fault(v), rest)
+    if let Verdict::Bad(fault) = field_fault(r, w) {
+        return Verdict::Bad(fault);
+    }
+    rule_fault(r, w, v[groups::ZONE], s.len() == Dcf77::LONG_LENGTH)
 }
 
 fn told(verdict: Verdict, r: Reading, head: u16) -> Answer
@@ -145,6 +182,22 @@ fn told(verdict: Verdict, r: Reading, head: u16) -> Answer
         Verdict::Good => Answer::Time(r, head),
         Verdict::Bad(fault) => Answer::No(refusal_of(fault)),
     }
+}
+
+// What is read of marks of a right length. The early refusals stand before it, and each form calls it for itself, so that they cost no more
+// than their tests.
+fn whole(base: u16, long: bool, s: &[u8]) -> Answer
+    requires s_value { (length_bad (length s.now) ≡ false) × (is_base base ≡ true) }
+    requires long_value { long ≡ is_long (length s.now) }
+    ensures { result ≡ read_dcf77 base s.now }
+{
+    let good = dcf77_table::good(long, s);
+    if good < s.len() {
+        return Answer::No(refusal_of(Fault::Byte(good)));
+    }
+    let v = dcf77_table::sums(long, s);
+    let r = reading_of(base, v);
+    told(said_fault(s, v, r), r, v[groups::HEAD] as u16)
 }
 
 impl Dcf77 {
@@ -157,14 +210,13 @@ impl Dcf77 {
         if !is_base(base) {
             return Answer::No(refusal_of(Fault::OtherBase));
         }
-        let long = s.len() == Dcf77::LONG_LENGTH;
-        let scan = dcf77_table::scanned(long, s);
-        let good = scan.good;
-        if good < s.len() {
-            return Answer::No(refusal_of(Fault::Byte(good)));
+        // seen first, as a minute that is out of step is refused by it
+        if s[0] != 0 {
+            return Answer::No(refusal_of(Fault::Byte(0)));
         }
-        let v = scan.sums;
-        let r = reading_of(base, v);
-        told(said_fault(s, v, r), r, v[groups::HEAD] as u16)
+        if s.len() == Dcf77::LONG_LENGTH {
+            return whole(base, true, s);
+        }
+        whole(base, false, s)
     }
 }
