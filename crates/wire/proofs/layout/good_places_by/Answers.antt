@@ -7,9 +7,6 @@ use mathlib.Core.Path.{ap}
 use mathlib.Core.Bool.{not}
 use Rattle.wire.proofs.layout.good_places_by.Goals as goal
 
-pub loop-place-init : goal.loop-place-init
-loop-place-init c = (omega arith, omega arith)
-
 pub returns-then-not-allowed_at : goal.returns-then-not-allowed_at
 returns-then-not-allowed_at c = stops_at (good_leads _ _) _ (omega arith) (failed c.allowed_at.ensures (ap not c.if-not-allowed_at.true))
 
