@@ -1,7 +1,7 @@
 -- What the verdict on a string, or on what a writer is given, tells: its length, its bytes, and the reading.
 use mathlib.Core.Bool.{true, false, not}
 use mathlib.Core.List.{List}
-use mathlib.Core.Path.{◌≡◌, ◌∙◌}
+use mathlib.Core.Path.{◌≡◌, refl, ◌∙◌}
 use Prim.Native.Nat.{ℕ, ◌≤◌, ◌<◌}
 use native.Mathlib.Omega.{arith}
 use lib.Dec.{eqb, ltb}
@@ -26,6 +26,10 @@ use Rattle.strings.proofs.CheckLaws.{Sound, sound, faultless}
 use Rattle.erlangen.specs.Layout.{size, position_size, layout}
 use Rattle.erlangen.specs.Meaning.{places, weekday_said, coasting_said, offset_wrong, mark_wrong, reading_of, fault_in, read_erlangen}
 use Rattle.erlangen.specs.Writing.{not_carried, length_bad, carried_of, write_fault}
+
+pub layout-length : length layout ≡ size
+unfolding layout
+layout-length = refl
 
 -- ---- the faults of a string in their order, and the answer that goes with each
 

@@ -31,14 +31,10 @@ use Rattle.strings.specs.Checks.{answer_of}
 use Rattle.erlangen.specs.Layout.{size, position_size, layout}
 use Rattle.erlangen.specs.Meaning.{reading_of, coasting_said, fault_in, read_erlangen, position_bytes}
 use Rattle.erlangen.specs.Writing.{bytes_of, length_bad, write_fault}
-use Rattle.erlangen.proofs.FaultLaws.{refused, Accepted, accepted_is, is_accepted, carried_is, is_carried}
+use Rattle.erlangen.proofs.FaultLaws.{layout-length, refused, Accepted, accepted_is, is_accepted, carried_is, is_carried}
 use Rattle.erlangen.proofs.BytesLaws.{bytes-length}
 use Rattle.erlangen.proofs.ReadLaws.{bytes_back, position-length, position_printable, reading_checked, reading_carried}
 use Rattle.erlangen.proofs.WriteLaws.{bytes_accepted, says_back}
-
-layout-length : length layout ≡ size
-unfolding layout
-layout-length = refl
 
 -- ---- what an answer tells
 

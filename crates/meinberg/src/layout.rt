@@ -1,10 +1,11 @@
 // What may stand at each place of a Meinberg string, as a layout of the crate `wire`, and where its fields stand.
 ghost use Rattle.std.specs.Prelude.{◌≡◌};
-ghost use Rattle.wire.specs.Layout.{good_places};
+ghost use Rattle.wire.specs.Layout.{all_good, good_places};
 ghost use Rattle.meinberg.specs.Layout.{layout, places};
 
+use super::Meinberg;
 use strings::Places;
-use wire::layout::good_places;
+use wire::layout::{all_allowed, good_places_by};
 
 // The first place of each field.
 pub(crate) const DAY: usize = 3;
@@ -29,68 +30,39 @@ pub(crate) const ZONE: usize = 29;
 
 pub(crate) const ANNOUNCEMENT: usize = 30;
 
-// The four bytes of an entry: both ends of a range, and two bytes that are allowed beside it.
-const LOW: u32 = 1;
+// What may stand at each place, in four columns. Both ends of a range, which is wider than one byte at a digit.
+const LOW: [u8; 32] = *b"\x02D:00.00.00;T:0;U:00.00.00;#*U!\x03";
 
-const HIGH: u32 = 256;
+const HIGH: [u8; 32] = *b"\x02D:99.99.99;T:9;U:99.99.99;#*U!\x03";
 
-const OTHER: u32 = 65536;
+// Two bytes beside it, which differ from the range at the marks only: a space for none, an `S` and an `A`.
+const OTHER: [u8; 32] = *b"\x02D:00.00.00;T:0;U:00.00.00;   A\x03";
 
-const THIRD: u32 = 16777216;
+const THIRD: [u8; 32] = *b"\x02D:00.00.00;T:0;U:00.00.00;  S \x03";
 
-// A byte as both ends of a range, alone, and with a second byte beside it.
-const ONE: u32 = LOW + HIGH;
+fn is_formed(s: &[u8]) -> bool
+    ensures { result ≡ all_good layout s.now }
+{
+    all_allowed(&LOW, &HIGH, &OTHER, &THIRD, s)
+}
 
-const ONLY: u32 = ONE + OTHER + THIRD;
+fn lowest_bad(s: &[u8]) -> usize
+    ensures { result ≡ good_places layout s.now }
+{
+    good_places_by(&LOW, &HIGH, &OTHER, &THIRD, s)
+}
 
-const OR: u32 = OTHER + THIRD;
-
-const DIGIT: u32 = 48 * LOW + 57 * HIGH + 48 * OTHER + 48 * THIRD;
-
-const LAYOUT: [u32; 32] = [
-    2 * ONLY,
-    // D:dd.mm.yy;
-    68 * ONLY,
-    58 * ONLY,
-    DIGIT,
-    DIGIT,
-    46 * ONLY,
-    DIGIT,
-    DIGIT,
-    46 * ONLY,
-    DIGIT,
-    DIGIT,
-    59 * ONLY,
-    // T:w;
-    84 * ONLY,
-    58 * ONLY,
-    DIGIT,
-    59 * ONLY,
-    // U:hh.mm.ss;
-    85 * ONLY,
-    58 * ONLY,
-    DIGIT,
-    DIGIT,
-    46 * ONLY,
-    DIGIT,
-    DIGIT,
-    46 * ONLY,
-    DIGIT,
-    DIGIT,
-    59 * ONLY,
-    // uvxy: `#` or space, `*` or space, `U`, space or `S`, `!`, `A` or space
-    35 * ONE + 32 * OR,
-    42 * ONE + 32 * OR,
-    85 * ONE + 32 * OTHER + 83 * THIRD,
-    33 * ONE + 65 * OTHER + 32 * THIRD,
-    3 * ONLY,
-];
-
-// How many bytes from the start are allowed where they stand.
+// How many bytes from the start are allowed where they stand: a bad one is looked for only where there is one, in a function of
+// its own, so that the columns are laid out for that search only then.
 pub(crate) fn allowed_places(s: &[u8]) -> usize
     ensures { result ≡ good_places layout s.now }
 {
-    good_places(&LAYOUT, s)
+    if s.len() <= Meinberg::LENGTH {
+        if is_formed(s) {
+            return s.len();
+        }
+    }
+    lowest_bad(s)
 }
 
 // Where the fields stand whose faults have a place.

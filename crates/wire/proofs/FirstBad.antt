@@ -1,11 +1,12 @@
 -- How many places from the start pass a test, among n of them: what is known of such a number, once for every test.
 use mathlib.Core.Path.{◌≡◌, refl, sym, subst, ◌∙◌}
-use mathlib.Core.Bool.{Bool, true, false, cond}
+use mathlib.Core.Bool.{Bool, true, false, cond, ◌&&◌}
 use Prim.Native.Nat.{ℕ, zero, suc, ◌+◌, ◌≤◌, ◌<◌}
 use native.Mathlib.Nat.{not-suc-le-zero, le_of_suc-le-suc}
 use native.Mathlib.Decide.{dec_lt}
 use native.Mathlib.Omega.{arith}
-use lib.Dec.{T}
+use lib.Dec.{T, leb}
+use borrow.Author.Tests.{le-leb, lt-leb, leb-true}
 
 -- g is the number of places from the start that pass the test `ok`, among n places
 pub record Leads (ok : ℕ → Bool) (n g : ℕ) : Type 0 where
@@ -64,3 +65,22 @@ module _ {ok : ℕ → Bool} {n g : ℕ} (r : Leads ok n g) where
 
   pub found_at : (k : ℕ) → k < n → ok k ≡ false → ((i : ℕ) → i < k → ok i ≡ true) → g ≡ k
   found_at k h e f = sym (stops_at k (reaches k (omega arith) f) e)
+
+  -- ---- a loop that looks at every place: whether all below i pass, at its start, a turn later, and at its end
+
+  pub all_none : true ≡ leb 0 g
+  all_none = sym (le-leb 0 g (omega arith))
+
+  pub all_next : (i : ℕ) → i < n → (leb i g && ok i) ≡ leb (i + 1) g
+  all_next i h = go (dec_lt g i) (ok i) refl
+    where
+      go : Dec (g < i) → (b : Bool) → ok i ≡ b → (leb i g && b) ≡ leb (i + 1) g
+      go (yes l) b e = rw (lt-leb i g l, lt-leb (i + 1) g (omega arith))
+      go (no m) true e = let l = one_more i h (omega arith) e in rw (le-leb i g (omega arith), le-leb (i + 1) g l)
+      go (no m) false e = let q = stops_at i (omega arith) e in rw (le-leb i g (omega arith), lt-leb (i + 1) g (omega arith))
+
+  pub all_is : (k : ℕ) → k ≡ n → leb k g ≡ true → k ≡ g
+  all_is k q e = omega (arith, leb-true k g e, r.within)
+
+pub all_seen : {good : Bool} (g i n : ℕ) → n ≤ i → i ≤ n → good ≡ leb i g → good ≡ leb n g
+all_seen g i n h k e = let q : n ≡ i = omega arith in rw q e

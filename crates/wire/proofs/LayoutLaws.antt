@@ -8,7 +8,7 @@ use lib.Dec.{leb}
 use lib.ListN.{length, get_or}
 use borrow.Author.Tests.{le-leb, leb-true}
 use Rattle.laws.proofs.Bools.{both}
-use Rattle.wire.specs.Layout.{allowed, good_places, printable, printables}
+use Rattle.wire.specs.Layout.{allowed, all_good, good_places, printable, printables}
 use Rattle.wire.proofs.FirstBad.{Leads, leads_none, leads_next, found, found_at, all_pass}
 
 -- the byte at place i of a text is allowed by the layout
@@ -42,6 +42,13 @@ first_bad layout text k e h l = found (good_leads layout text) k e (omega arith)
 pub first_bad_is : (layout text : List ℕ) (k : ℕ) → k < length layout → k < length text → allowed_at layout text k ≡ false
     → ((i : ℕ) → i < k → allowed_at layout text i ≡ true) → good_places layout text ≡ k
 first_bad_is layout text k h l e f = found_at (good_leads layout text) k (omega arith) e f
+
+-- of a text that is no longer than its layout
+pub all-good : (layout text : List ℕ) → length text ≤ length layout → all_good layout text ≡ true → length text ≡ good_places layout text
+all-good layout text e h =
+    let l = leb-true (min (length layout) (length text)) (good_places layout text) h in
+    let w = (good_leads layout text).within in
+    omega arith
 
 -- ---- printable bytes
 

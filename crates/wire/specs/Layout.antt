@@ -1,6 +1,6 @@
 -- What may stand at each place of a string. A layout is a list of numbers, one a place, and each packs four bytes:
 -- a lowest and a highest byte of a range, and two bytes that are allowed beside the range.
-use Rattle.std.specs.Prelude.{Bool, cond, ◌&&◌, ◌||◌, List, [], ◌∷◌, ℕ, suc, ◌+◌, ◌*◌, ◌/◌, ◌%◌, eqb, leb}
+use Rattle.std.specs.Prelude.{Bool, cond, ◌&&◌, ◌||◌, List, [], ◌∷◌, ℕ, suc, min, ◌+◌, ◌*◌, ◌/◌, ◌%◌, eqb, leb, length}
 
 -- the four bytes of an entry as one number
 unfoldable pub packed : ℕ → ℕ → ℕ → ℕ → ℕ
@@ -34,11 +34,23 @@ beside e b = eqb b (e / 65536 % 256) || eqb b (e / 16777216)
 unfoldable pub allowed : ℕ → ℕ → Bool
 allowed e b = within e b || beside e b
 
+-- the layout that four columns say, place by place up to the end of the shortest: both ends of the ranges, and the bytes beside them
+unfoldable pub columns : List ℕ → List ℕ → List ℕ → List ℕ → List ℕ
+columns [] high other third = []
+columns (a ∷ low) [] other third = []
+columns (a ∷ low) (b ∷ high) [] third = []
+columns (a ∷ low) (b ∷ high) (c ∷ other) [] = []
+columns (a ∷ low) (b ∷ high) (c ∷ other) (d ∷ third) = packed a b c d ∷ columns low high other third
+
 -- how many bytes from the start are allowed where they stand, up to the end of the layout or of the text
 unfoldable pub good_places : List ℕ → List ℕ → ℕ
 good_places [] text = 0
 good_places (e ∷ layout) [] = 0
 good_places (e ∷ layout) (b ∷ text) = cond (allowed e b) (suc (good_places layout text)) 0
+
+-- every byte is allowed where it stands, up to the end of the layout or of the text
+abbrev pub all_good : List ℕ → List ℕ → Bool
+all_good layout text = leb (min (length layout) (length text)) (good_places layout text)
 
 -- a byte from the space to the tilde
 unfoldable pub printable : ℕ → Bool

@@ -1,8 +1,10 @@
--- `meinberg::layout::allowed_places` meets its contract: the layout that it lends is the paper's. Assumes nothing.
-use Rattle.wire.specs.Layout.{packed, exactly, from, either, one_of}
+-- `meinberg::layout::allowed_places` meets its contract. Assumes nothing.
+use native.Mathlib.Omega.{arith}
+use mathlib.Core.Path.{sym, ◌∙◌}
+use Rattle.wire.proofs.LayoutLaws.{all-good}
 use Rattle.meinberg.specs.Layout.{layout}
+use Rattle.meinberg.proofs.ReadLaws.{layout-length}
 use Rattle.meinberg.proofs.layout.allowed_places.Goals as goal
 
-pub returns : goal.returns
-unfolding either exactly from layout one_of packed
-returns c = c.good_places.ensures
+pub returns-then-is_formed : goal.returns-then-is_formed
+returns-then-is_formed c = all-good layout _ (omega (arith, layout-length)) (sym c.is_formed.ensures ∙ c.if-is_formed.true)

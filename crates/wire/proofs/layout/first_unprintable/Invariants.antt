@@ -1,8 +1,8 @@
--- `wire::layout::unprintable_at` meets its contract. The invariant: no unprintable byte has been passed. Assumes nothing.
+-- `wire::layout::first_unprintable` meets its contract. The invariant: no unprintable byte has been passed. Assumes nothing.
 use Prim.Native.Nat.{◌≤◌, ◌-◌}
 use lib.ListN.{length}
 use Rattle.wire.specs.Layout.{printables}
-use Rattle.wire.proofs.layout.unprintable_at.Given as goal
+use Rattle.wire.proofs.layout.first_unprintable.Given as goal
 
 abbrev pub invariant-loop-i : goal.invariant-loop-i
 invariant-loop-i l = (l.i ≤ length l.text) × (l.i ≤ printables l.text)
