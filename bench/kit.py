@@ -1,6 +1,5 @@
 """The toolchain's programs, found by `rt doc`; building the two sides; running a program on bytes."""
 import pathlib
-import platform
 import subprocess
 import sys
 
@@ -14,8 +13,8 @@ def said_by(*words):
     return subprocess.run(words, stdout=subprocess.PIPE, check=True, text=True, cwd=ROOT).stdout.strip()
 
 
-# the toolchain's folder is two above its first guide
-OWN = pathlib.Path(said_by("rt", "doc")).parent.parent / "on" / platform.machine()
+# the toolchain's folder is that of its first guide
+OWN = pathlib.Path(said_by("rt", "doc")).parent
 TOOLS = OWN / "toolchain"
 EMULATOR = TOOLS / "bin" / "qemu-x86_64"
 LOADER = [str(TOOLS / "lib" / "ld-linux-x86-64.so.2"), "--library-path", str(TOOLS / "lib")]
@@ -33,10 +32,11 @@ def output_of(program, given, *arguments):
 
 def build_ours(*names):
     """Proves and builds programs of crates/, and gives their paths."""
-    log = subprocess.run(["rt", "check", *names], stdout=subprocess.PIPE, stderr=subprocess.STDOUT, text=True, cwd=ROOT)
-    if log.returncode:
-        sys.exit(f"bench: rt check {' '.join(names)} failed:\n" + log.stdout[-3000:])
-    return [ROOT / "target" / "bin" / name for name in names]
+    for name in names:
+        log = subprocess.run([ROOT / "run", name], stdin=subprocess.DEVNULL, stdout=subprocess.DEVNULL, stderr=subprocess.PIPE, text=True)
+        if log.returncode:
+            sys.exit(f"bench: ./run {name} failed:\n" + log.stderr[-3000:])
+    return [ROOT / "crates" / name / "out" / name for name in names]
 
 
 def build_plain(*mains):
