@@ -68,7 +68,7 @@ fn base_for(words: usize, text: &[u8]) -> u16
 
 // The base that the program is started with. An argument that is longer than the space counts as an empty one, which names none
 // either; those after the first are not looked at.
-fn base_given<E: Env>(rt: &E) -> u16 {
+fn base_given(rt: &HostRuntime) -> u16 {
     let mut space = [0u8; 5];
     match rt.arg(1, &mut space) {
         Ok(n) => base_for(2, &space[..n]),
