@@ -64,22 +64,22 @@ module _ (base : ℕ) (s : List ℕ) (way : Coasting) (out : List ℕ) where
 
 pub returns-then-out-lt-LENGTH : goal.returns-then-out-lt-LENGTH
 returns-then-out-lt-LENGTH c =
-    let both = let a = c.args in
-    too_short _ a.s.now a.way a.out.now c.refusal_of.result c.refuse.result c.refuse.new.out (omega arith)
+    let a = c.args in
+    let both = too_short _ a.s.now a.way a.out.now c.refusal_of.result c.refuse.result c.refuse.new.out (omega arith)
     c.refusal_of.ensures c.refuse.ensures.value c.refuse.ensures.out_unchanged in
     record { value = both.0; out_after = both.1 }
 
 pub returns-in-Time : goal.returns-in-Time
 returns-in-Time c =
-    let both = let a = c.args in
-    wrote _ a.s.now a.way a.out.now c.if-out-lt-LENGTH.false c.whichever-answer.result (c.whichever-answer.ensures ∙ ap whichever c.read.ensures)
+    let a = c.args in
+    let both = wrote _ a.s.now a.way a.out.now c.if-out-lt-LENGTH.false c.whichever-answer.result (c.whichever-answer.ensures ∙ ap whichever c.read.ensures)
     c.in-Time.r c.carried_by.result c.in-Time.coasting c.write.result c.write.new.out c.in-Time.is c.carried_by.ensures
     c.write.ensures.value c.write.ensures.out_after in
     record { value = both.0; out_after = both.1 }
 
 pub returns-in-No : goal.returns-in-No
 returns-in-No c =
-    let both = let a = c.args in
-    refused _ a.s.now a.way a.out.now c.if-out-lt-LENGTH.false c.whichever-answer.result (c.whichever-answer.ensures ∙ ap whichever c.read.ensures)
+    let a = c.args in
+    let both = refused _ a.s.now a.way a.out.now c.if-out-lt-LENGTH.false c.whichever-answer.result (c.whichever-answer.ensures ∙ ap whichever c.read.ensures)
     c.in-No.refusal c.refuse-in-No.result c.refuse-in-No.new.out c.in-No.is c.refuse-in-No.ensures.value c.refuse-in-No.ensures.out_unchanged in
     record { value = both.0; out_after = both.1 }

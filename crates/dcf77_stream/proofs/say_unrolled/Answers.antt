@@ -21,9 +21,9 @@ told base w first window k said l h e f s =
     s ∙ ap (say_of base) (f ∙ rw (e, n) (unrolls w (replicate kept filler) k (omega arith) (omega arith)))
 
 pub slice_bounds-put_at-end-4 : goal.slice_bounds-put_at-end-4
-slice_bounds-put_at-end-4 c = let a = c.before.args in sym (length-take-le a.oldest a.ring.now (omega arith))
+slice_bounds-put_at-end-4 c = let a = c.args in sym (length-take-le a.oldest a.ring.now (omega arith))
 
 pub returns : goal.returns
 returns c =
-    let args = c.before.args in
+    let args = c.args in
     told args.base args.ring.now c.put_at.new.out c.put_at-2.new.out args.oldest c.say.result (omega arith) (omega arith) c.put_at.ensures.out_after c.put_at-2.ensures.out_after c.say.ensures

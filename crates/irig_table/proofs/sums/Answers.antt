@@ -32,9 +32,9 @@ unfolding digit_at frame_pulses group_of part_of tag_of tags total weight_of
 overflow_mul-v-2 c =
     let summed : c.sums-v.result ≡ tag_sums tags c.args.frame.now = c.sums-v.ensures in
     let once : let v = c.sums-v.result in let u = set (set v 23 (get_or v 23 0 + 256 * get_or v 24 0)) 24 0 in
-    (get_or u 25 0 ≡ get_or v 25 0) × (get_or u 23 0 ≡ get_or v 23 0 + 256 * get_or v 24 0) = joined_once c.sums-v.result _ (omega (arith, parts_long _ _ (summed))) in
+    (get_or u 25 0 ≡ get_or v 25 0) × (get_or u 23 0 ≡ get_or v 23 0 + 256 * get_or v 24 0) = joined_once c.sums-v.result _ (omega (arith, parts_long _ _ summed)) in
     let h = small _ _ c.sums-v.ensures 25 (lit< tt) in
-    let k = (once).0 in
+    let k = once.0 in
     record { fits = omega arith }
 
 pub overflow_add-v-2 : goal.overflow_add-v-2
@@ -42,16 +42,16 @@ unfolding digit_at frame_pulses group_of part_of tag_of tags total weight_of
 overflow_add-v-2 c =
     let summed : c.sums-v.result ≡ tag_sums tags c.args.frame.now = c.sums-v.ensures in
     let once : let v = c.sums-v.result in let u = set (set v 23 (get_or v 23 0 + 256 * get_or v 24 0)) 24 0 in
-    (get_or u 25 0 ≡ get_or v 25 0) × (get_or u 23 0 ≡ get_or v 23 0 + 256 * get_or v 24 0) = joined_once c.sums-v.result _ (omega (arith, parts_long _ _ (summed))) in
+    (get_or u 25 0 ≡ get_or v 25 0) × (get_or u 23 0 ≡ get_or v 23 0 + 256 * get_or v 24 0) = joined_once c.sums-v.result _ (omega (arith, parts_long _ _ summed)) in
     let h = small _ _ c.sums-v.ensures 25 (lit< tt) in
     let i = small _ _ c.sums-v.ensures 24 (lit< tt) in
     let j = small _ _ c.sums-v.ensures 23 (lit< tt) in
-    let k = (once).0 in
-    let l = (once).1 in
+    let k = once.0 in
+    let l = once.1 in
     record { fits = omega arith }
 
 pub returns : goal.returns
 unfolding digit_at frame_pulses group_of part_of tag_of tags total weight_of
 returns c =
     let summed : c.sums-v.result ≡ tag_sums tags c.args.frame.now = c.sums-v.ensures in
-    frame_sums _ _ (summed)
+    frame_sums _ _ summed

@@ -17,12 +17,12 @@ overflow_add-at c =
 pub put-requires : goal.put-requires
 put-requires c =
     let all : c.put_decimal-digits.result ≡ length (decimal c.args.number) = c.put_decimal-digits.ensures.value ∙ digits_stored c.args.at c.args.number c.args.out.now (first_room c.args.at (decimal c.args.number) c.args.behind.now c.args.out.now c.requires) in
-    then-room c.args.at (decimal c.args.number) c.args.behind.now c.args.out.now c.requires _ _ (ap (λ (n : ℕ). c.args.at + n) (all)) c.put_decimal-digits.ensures.out_after
+    then-room c.args.at (decimal c.args.number) c.args.behind.now c.args.out.now c.requires _ _ (ap (λ (n : ℕ). c.args.at + n) all) c.put_decimal-digits.ensures.out_after
 
 pub returns : goal.returns
 returns c =
     let all : c.put_decimal-digits.result ≡ length (decimal c.args.number) = c.put_decimal-digits.ensures.value ∙ digits_stored c.args.at c.args.number c.args.out.now (first_room c.args.at (decimal c.args.number) c.args.behind.now c.args.out.now c.requires) in
-    let e = ap (λ (n : ℕ). c.args.at + n) (all) in
+    let e = ap (λ (n : ℕ). c.args.at + n) all in
     let h = c.put_decimal-digits.ensures.out_after in
     let p = c.put in record {
       value = both_end c.args.at (decimal c.args.number) c.args.behind.now c.args.out.now c.requires _ _ e h _ p.ensures.value;

@@ -19,47 +19,40 @@ returns-then-not-lies_within c = record {
 
 pub packed-high-requires : goal.packed-high-requires
 packed-high-requires c =
-    let known : let a = c.args in
-    (a.from + a.count ≤ length a.pulses.now) × (a.count ≤ most_packed) = part_lies _ _ _ (passed c.lies_within.ensures (ap not c.if-not-lies_within.false)) in
-    let k = known in omega arith
+    let a = c.args in
+    let k = part_lies (length a.pulses.now) a.from a.count (passed c.lies_within.ensures (ap not c.if-not-lies_within.false)) in
+    omega arith
 
 pub overflow_add-from : goal.overflow_add-from
 overflow_add-from c =
-    let known : let a = c.args in
-    (a.from + a.count ≤ length a.pulses.now) × (a.count ≤ most_packed) = part_lies _ _ _ (passed c.lies_within.ensures (ap not c.if-not-lies_within.false)) in
-    let k = known in omega arith
+    let a = c.args in
+    let k = part_lies (length a.pulses.now) a.from a.count (passed c.lies_within.ensures (ap not c.if-not-lies_within.false)) in
+    omega arith
 
 pub packed-low-requires : goal.packed-low-requires
 packed-low-requires c =
-    let known : let a = c.args in
-    (a.from + a.count ≤ length a.pulses.now) × (a.count ≤ most_packed) = part_lies _ _ _ (passed c.lies_within.ensures (ap not c.if-not-lies_within.false)) in
-    let k = known in omega arith
+    let a = c.args in
+    let k = part_lies (length a.pulses.now) a.from a.count (passed c.lies_within.ensures (ap not c.if-not-lies_within.false)) in
+    omega arith
 
 pub overflow_add-result : goal.overflow_add-result
 overflow_add-result c =
-    let known : let a = c.args in
-    (a.from + a.count ≤ length a.pulses.now) × (a.count ≤ most_packed) = part_lies _ _ _ (passed c.lies_within.ensures (ap not c.if-not-lies_within.false)) in
-    let whole : let a = c.args in
-    let n = Count.ones c.packed-high.result + Count.ones c.packed-low.result in
-    (n ≡ ones_of a.from a.count a.pulses.now) × (n ≤ most_packed) = let a = c.args in
-    let k = known in
+    let a = c.args in
+    let k = part_lies (length a.pulses.now) a.from a.count (passed c.lies_within.ensures (ap not c.if-not-lies_within.false)) in
     let x = c.packed-high in
     let y = c.packed-low in
+    let both =
     ones_of_two a.from a.count c.smaller-first.result (Count.ones x.result) (Count.ones y.result) a.pulses.now
     (omega arith) k.0 k.1 x.ensures y.ensures in
-    omega (arith, (whole).1)
+    omega (arith, both.1)
 
 pub returns : goal.returns
 returns c =
-    let both = let known : let a = c.args in
-    (a.from + a.count ≤ length a.pulses.now) × (a.count ≤ most_packed) = part_lies _ _ _ (passed c.lies_within.ensures (ap not c.if-not-lies_within.false)) in
-    let whole : let a = c.args in
-    let n = Count.ones c.packed-high.result + Count.ones c.packed-low.result in
-    (n ≡ ones_of a.from a.count a.pulses.now) × (n ≤ most_packed) = let a = c.args in
-    let k = known in
+    let a = c.args in
+    let k = part_lies (length a.pulses.now) a.from a.count (passed c.lies_within.ensures (ap not c.if-not-lies_within.false)) in
     let x = c.packed-high in
     let y = c.packed-low in
+    let both =
     ones_of_two a.from a.count c.smaller-first.result (Count.ones x.result) (Count.ones y.result) a.pulses.now
     (omega arith) k.0 k.1 x.ensures y.ensures in
-    whole in
     record { value = both.0; upper_bound = both.1 }

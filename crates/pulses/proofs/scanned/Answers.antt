@@ -13,19 +13,19 @@ pub offset_bounds-table-i : goal.offset_bounds-table-i
 offset_bounds-table-i c =
     let inside : let a = c.args in
     (c.loop-i.i < most_places) × (c.loop-i.i < length a.table.now) × (c.loop-i.i < length a.pulses.now) = omega arith in
-    let h = (inside).0 in omega arith
+    let h = inside.0 in omega arith
 
 pub bounds-table-i : goal.bounds-table-i
 bounds-table-i c =
     let inside : let a = c.args in
     (c.loop-i.i < most_places) × (c.loop-i.i < length a.table.now) × (c.loop-i.i < length a.pulses.now) = omega arith in
-    let h = (inside).1 in omega arith
+    let h = inside.1 in omega arith
 
 pub bounds-pulses-i : goal.bounds-pulses-i
 bounds-pulses-i c =
     let inside : let a = c.args in
     (c.loop-i.i < most_places) × (c.loop-i.i < length a.table.now) × (c.loop-i.i < length a.pulses.now) = omega arith in
-    let h = (inside).2 in omega arith
+    let h = inside.2 in omega arith
 
 pub overflow_cast-group : goal.overflow_cast-group
 overflow_cast-group c = let h = c.if-group-lt-FIRST_DATA.true in omega arith
@@ -42,7 +42,7 @@ pub overflow_add-i : goal.overflow_add-i
 overflow_add-i c =
     let inside : let a = c.args in
     (c.loop-i.i < most_places) × (c.loop-i.i < length a.table.now) × (c.loop-i.i < length a.pulses.now) = omega arith in
-    let h = (inside).0 in omega arith
+    let h = inside.0 in omega arith
 
 pub loop-i-smaller-then-group-lt-FIRST_DATA : goal.loop-i-smaller-then-group-lt-FIRST_DATA
 loop-i-smaller-then-group-lt-FIRST_DATA c = let h = c.loop-i-test.true in omega arith
@@ -74,7 +74,7 @@ pub overflow_add-sums : goal.overflow_add-sums
 overflow_add-sums c =
     let inside : let a = c.args in
     (c.loop-i.i < most_places) × (c.loop-i.i < length a.table.now) × (c.loop-i.i < length a.pulses.now) = omega arith in
-    let h = (inside).0 in
+    let h = inside.0 in
     let x = c.share.ensures.upper_bound in
     let s = c.loop-i.invariant.1.gathered.small c.group_of-group.result in
     omega arith
@@ -89,7 +89,7 @@ pub overflow_add-i-in-loop-i : goal.overflow_add-i-in-loop-i
 overflow_add-i-in-loop-i c =
     let inside : let a = c.args in
     (c.loop-i.i < most_places) × (c.loop-i.i < length a.table.now) × (c.loop-i.i < length a.pulses.now) = omega arith in
-    let h = (inside).0 in omega arith
+    let h = inside.0 in omega arith
 
 pub loop-i-smaller : goal.loop-i-smaller
 loop-i-smaller c = let h = c.loop-i-test.true in omega arith

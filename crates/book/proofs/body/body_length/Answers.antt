@@ -1,4 +1,5 @@
 -- `book::body::body_length` meets its contract. Assumes nothing.
+use Rattle.std.proofs.Common.{◌≢◌, arith}
 use borrow.Author.Tests.{ne_eqb}
 use Rattle.book.specs.Body.{body_length}
 use Rattle.book.proofs.body.body_length.Goals as goal
@@ -26,5 +27,10 @@ returns-in-5 c = rw c.in-5.is
 pub returns-in_default : goal.returns-in_default
 unfolding body_length
 returns-in_default c =
-    let r = c.in_default.in_default-own.rest in
-    rw (ne_eqb _ _ r.0.0.0.0.1, ne_eqb _ _ r.0.0.0.1, ne_eqb _ _ r.0.0.1, ne_eqb _ _ r.0.1, ne_eqb _ _ r.1)
+    let kind = c.args.kind in
+    let a : kind ≢ 1 = omega arith in
+    let b : kind ≢ 2 = omega arith in
+    let d : kind ≢ 3 = omega arith in
+    let e : kind ≢ 4 = omega arith in
+    let f : kind ≢ 5 = omega arith in
+    rw (ne_eqb kind 1 a, ne_eqb kind 2 b, ne_eqb kind 3 d, ne_eqb kind 4 e, ne_eqb kind 5 f)

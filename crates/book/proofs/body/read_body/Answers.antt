@@ -1,4 +1,5 @@
 -- `book::body::read_body` meets its contract. Assumes nothing.
+use Rattle.std.proofs.Common.{◌≢◌, arith}
 use borrow.Author.Tests.{ne_eqb}
 use Rattle.book.specs.Body.{read_body}
 use Rattle.book.proofs.body.read_body.Goals as goal
@@ -18,5 +19,8 @@ returns-in-3 c = rw (c.in-3.is, c.of_frame.ensures, c.read-in-3.ensures)
 pub returns-in_default : goal.returns-in_default
 unfolding read_body
 returns-in_default c =
-    let r = c.in_default.in_default-own.rest in
-    rw (ne_eqb _ _ r.0.0.1, ne_eqb _ _ r.0.1, ne_eqb _ _ r.1, c.of_minute.ensures, c.read-in_default.ensures)
+    let kind = c.args.kind in
+    let a : kind ≢ 1 = omega arith in
+    let b : kind ≢ 2 = omega arith in
+    let d : kind ≢ 3 = omega arith in
+    rw (ne_eqb kind 1 a, ne_eqb kind 2 b, ne_eqb kind 3 d, c.of_minute.ensures, c.read-in_default.ensures)

@@ -17,7 +17,7 @@ returns-then-not-in_year c = no_such_day_lem _ _ (failed c.in_year.ensures (ap n
 pub returns-then-day-lt32 : goal.returns-then-day-lt32
 returns-then-day-lt32 c =
     let known : let s = c.args in in_year s.leap s.day ≡ true = passed c.in_year.ensures (ap not c.if-not-in_year.false) in
-    in_january _ _ (known) (omega arith)
+    in_january _ _ known (omega arith)
 
 pub month_of-month-requires : goal.month_of-month-requires
 month_of-month-requires c =
@@ -30,20 +30,20 @@ pub overflow_sub-result : goal.overflow_sub-result
 overflow_sub-result c =
     let known : let s = c.args in in_year s.leap s.day ≡ true = passed c.in_year.ensures (ap not c.if-not-in_year.false) in
     let left : let s = c.args in let m = c.month_of-month.result in
-    OnDay s.leap s.day (record { month = m; day = s.day - days_before s.leap m }) = in_month _ _ _ (known) c.month_of-month.ensures in
-    let e = c.days_before.ensures.value in let d = (left).is in omega arith
+    OnDay s.leap s.day (record { month = m; day = s.day - days_before s.leap m }) = in_month _ _ _ known c.month_of-month.ensures in
+    let e = c.days_before.ensures.value in let d = left.is in omega arith
 
 pub overflow_cast-result-2 : goal.overflow_cast-result-2
 overflow_cast-result-2 c =
     let known : let s = c.args in in_year s.leap s.day ≡ true = passed c.in_year.ensures (ap not c.if-not-in_year.false) in
     let left : let s = c.args in let m = c.month_of-month.result in
-    OnDay s.leap s.day (record { month = m; day = s.day - days_before s.leap m }) = in_month _ _ _ (known) c.month_of-month.ensures in
+    OnDay s.leap s.day (record { month = m; day = s.day - days_before s.leap m }) = in_month _ _ _ known c.month_of-month.ensures in
     let e = c.days_before.ensures.value in
-    let d = (left).last in
+    let d = left.last in
     let m = month_short c.args.leap c.month_of-month.result in
     record { fits = omega arith }
 
 pub returns : goal.returns
 returns c =
     let known : let s = c.args in in_year s.leap s.day ≡ true = passed c.in_year.ensures (ap not c.if-not-in_year.false) in
-    rw c.days_before.ensures.value (is_month_day _ _ _ (known) c.month_of-month.ensures)
+    rw c.days_before.ensures.value (is_month_day _ _ _ known c.month_of-month.ensures)

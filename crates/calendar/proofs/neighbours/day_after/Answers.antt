@@ -22,14 +22,14 @@ module _ (t : Date) (n : ℕ) (e : n ≡ days_in (leap_year t.year) t.month) whe
 pub returns-then-t-days_in : goal.returns-then-t-days_in
 returns-then-t-days_in c =
     let length_is : let t = c.args.t in c.days_in.result ≡ days_in (leap_year t.year) t.month = rw (← c.is_leap.ensures) c.days_in.ensures in
-    in_month _ c.days_in.result (length_is) c.if-t-days_in.true
+    in_month _ c.days_in.result length_is c.if-t-days_in.true
 
 pub returns-then-t-lt12 : goal.returns-then-t-lt12
 returns-then-t-lt12 c =
     let length_is : let t = c.args.t in c.days_in.result ≡ days_in (leap_year t.year) t.month = rw (← c.is_leap.ensures) c.days_in.ensures in
-    in_year_lem _ c.days_in.result (length_is) c.if-t-days_in.false c.if-t-lt12.true
+    in_year_lem _ c.days_in.result length_is c.if-t-days_in.false c.if-t-lt12.true
 
 pub returns : goal.returns
 returns c =
     let length_is : let t = c.args.t in c.days_in.result ≡ days_in (leap_year t.year) t.month = rw (← c.is_leap.ensures) c.days_in.ensures in
-    new_year_lem _ c.days_in.result (length_is) _ c.year_after.ensures c.if-t-days_in.false c.if-t-lt12.false
+    new_year_lem _ c.days_in.result length_is _ c.year_after.ensures c.if-t-days_in.false c.if-t-lt12.false

@@ -19,13 +19,13 @@ returns-then-not-is_base c =
 pub bounds-s-0 : goal.bounds-s-0
 bounds-s-0 c =
     let right-length : length_bad (length c.args.s.now) ≡ false = sym c.length_bad.ensures ∙ c.if-length_bad.false in
-    some_marks c.args.s.now (right-length)
+    some_marks c.args.s.now right-length
 
 pub returns-then-s-ne0 : goal.returns-then-s-ne0
 returns-then-s-ne0 c =
     let right-length : length_bad (length c.args.s.now) ≡ false = sym c.length_bad.ensures ∙ c.if-length_bad.false in
     let right-base : is_base c.args.base ≡ true = sym c.is_base.ensures ∙ c.if-not-is_base.false in
-    no_zero _ _ (right-length) (right-base) _ c.if-s-ne0.true c.refusal_of-then-s-ne0.ensures
+    no_zero _ _ right-length right-base _ c.if-s-ne0.true c.refusal_of-then-s-ne0.ensures
 
 pub whole-requires : goal.whole-requires
 whole-requires c =

@@ -28,8 +28,8 @@ carry_fault-requires c = sym c.is_base.ensures ∙ c.if-not-is_base.false
 
 pub returns : goal.returns
 returns c =
-    let both = let a = c.args in
-    finished a.base a.r a.head a.out.now _ _ _ _ _ _ _
+    let a = c.args in
+    let both = finished a.base a.r a.head a.out.now _ _ _ _ _ _ _
     c.due_long-long.ensures c.carry_fault.ensures c.room_fault-verdict.ensures
     c.is_good.ensures c.store.ensures c.length_of.ensures c.written.ensures in
     record { value = both.0; out_after = both.1 }

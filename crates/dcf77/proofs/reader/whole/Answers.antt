@@ -20,4 +20,4 @@ pub returns : goal.returns
 returns c =
     let all-good : let s = c.args.s.now in length s ≤ good_pulses (table_for s) s = rw (good_found c.args.s.now c.args.long c.requires.long_value _ c.good-good.ensures) at c.if-good-s.false in
     marks-told _ _ c.requires.s_value.0 c.requires.s_value.1 c.sums-v.result c.reading_of-r.result c.said_fault.result c.told.result
-    (all-good) (says_found c.args.s.now c.args.long c.requires.long_value _ c.sums-v.ensures) c.reading_of-r.ensures c.said_fault.ensures c.told.ensures
+    all-good (says_found c.args.s.now c.args.long c.requires.long_value _ c.sums-v.ensures) c.reading_of-r.ensures c.said_fault.ensures c.told.ensures

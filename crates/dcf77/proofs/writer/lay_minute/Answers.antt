@@ -44,7 +44,7 @@ pub returns : goal.returns
 returns c =
     let fits : (let a = c.args in length (minute_marks a.long) ≤ length a.out.now) = let a = c.args in
     fit_length a.long a.out.now (sym c.lay.ensures.value ∙ c.if-not-lay.false) in
-    let a = c.before.before.before.args in
+    let a = c.args in
     let long : length a.plain ≡ groups = search rules in
     mended a.long a.plain a.out.now c.lay.new.out c.evened-minute.result c.evened-hour.result c.evened-date.result
-    long (fits) c.lay.ensures.out_after c.evened-minute.ensures c.evened-hour.ensures c.evened-date.ensures
+    long fits c.lay.ensures.out_after c.evened-minute.ensures c.evened-hour.ensures c.evened-date.ensures

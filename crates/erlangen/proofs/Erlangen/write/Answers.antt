@@ -41,12 +41,12 @@ lay-requires c =
 
 pub returns-in-Bad : goal.returns-in-Bad
 returns-in-Bad c =
-    let both = let s = c.args in
-    refused s.base s.r s.coasting s.position.now s.out.now c.in-Bad.fault (sym c.write_fault.ensures ∙ c.in-Bad.is) c.refusal_of.ensures in
+    let s = c.args in
+    let both = refused s.base s.r s.coasting s.position.now s.out.now c.in-Bad.fault (sym c.write_fault.ensures ∙ c.in-Bad.is) c.refusal_of.ensures in
     record { value = both.0; out_after = both.1 }
 
 pub returns-in-Good : goal.returns-in-Good
 returns-in-Good c =
-    let both = let s = c.args in
-    accepted s.base s.r s.coasting s.position.now s.out.now (sym c.write_fault.ensures ∙ c.in-Good.is) c.lay.ensures in
+    let s = c.args in
+    let both = accepted s.base s.r s.coasting s.position.now s.out.now (sym c.write_fault.ensures ∙ c.in-Good.is) c.lay.ensures in
     record { value = both.0; out_after = both.1 }

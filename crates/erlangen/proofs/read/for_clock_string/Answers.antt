@@ -16,7 +16,7 @@ returns-then-not-is_base c =
 pub returns-then-good-lt-LENGTH : goal.returns-then-good-lt-LENGTH
 returns-then-good-lt-LENGTH c =
     let the-base : is_base c.args.base ≡ true = sym c.is_base.ensures ∙ c.if-not-is_base.false in
-    rw c.refusal_of-then-good-lt-LENGTH.ensures (refused _ _ _ (wrong_byte _ _ _ (omega arith) (the-base) c.good_places-good.ensures (omega arith)))
+    rw c.refusal_of-then-good-lt-LENGTH.ensures (refused _ _ _ (wrong_byte _ _ _ (omega arith) the-base c.good_places-good.ensures (omega arith)))
 
 pub returns : goal.returns
 returns c =
@@ -25,5 +25,5 @@ returns c =
     let s = a.s.now in
     let v = c.said_fault in
     let f = rw c.reading_of-r.ensures at v.ensures in
-    let verdict = said_last a.base s v.result _ (omega arith) (the-base) c.good_places-good.ensures (omega arith) f in
+    let verdict = said_last a.base s v.result _ (omega arith) the-base c.good_places-good.ensures (omega arith) f in
     rw (c.told.ensures, c.coasting_said.ensures, c.reading_of-r.ensures) (answered a.base s v.result verdict)

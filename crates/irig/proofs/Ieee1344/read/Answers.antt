@@ -18,7 +18,7 @@ pub returns-then-s-ne-MARK : goal.returns-then-s-ne-MARK
 returns-then-s-ne-MARK c =
     let the-length : length c.args.s.now ≡ frame_length = c.if-s-ne-LENGTH.false in
     let the-base : is_base c.args.base ≡ true = sym c.is_base.ensures ∙ c.if-not-is_base.false in
-    rw c.refusal_of-then-s-ne-MARK.ensures (sym (no_mark _ _ (the-length) (the-base) c.if-s-ne-MARK.true))
+    rw c.refusal_of-then-s-ne-MARK.ensures (sym (no_mark _ _ the-length the-base c.if-s-ne-MARK.true))
 
 pub whole-requires : goal.whole-requires
 whole-requires c =

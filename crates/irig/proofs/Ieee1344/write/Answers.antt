@@ -27,8 +27,8 @@ module _ (b : ℕ) (r : Reading) (out : List ℕ) (v : Verdict) (is : v ≡ writ
 
 pub returns-in-Bad : goal.returns-in-Bad
 returns-in-Bad c =
-    let both = let a = c.args in
-    refused _ a.r a.out.now c.write_fault-verdict.result c.write_fault-verdict.ensures c.in-Bad.fault _ c.in-Bad.is c.refusal_of.ensures in
+    let a = c.args in
+    let both = refused _ a.r a.out.now c.write_fault-verdict.result c.write_fault-verdict.ensures c.in-Bad.fault _ c.in-Bad.is c.refusal_of.ensures in
     record { value = both.0; out_after = both.1 }
 
 pub lay_frame-requires : goal.lay_frame-requires
@@ -38,6 +38,6 @@ lay_frame-requires c =
 
 pub returns : goal.returns
 returns c =
-    let both = let a = c.args in
-    wrote _ a.r a.out.now c.write_fault-verdict.result c.write_fault-verdict.ensures c.lay_frame.new.out c.in_default.is c.lay_frame.ensures in
+    let a = c.args in
+    let both = wrote _ a.r a.out.now c.write_fault-verdict.result c.write_fault-verdict.ensures c.lay_frame.new.out c.in_default.is c.lay_frame.ensures in
     record { value = both.0; out_after = both.1 }

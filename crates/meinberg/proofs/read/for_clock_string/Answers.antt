@@ -21,7 +21,7 @@ returns-then-not-is_base c =
 pub returns-then-allowed-le-LAST : goal.returns-then-allowed-le-LAST
 returns-then-allowed-le-LAST c =
     let the-base : is_base c.args.base ≡ true = sym c.is_base.ensures ∙ c.if-not-is_base.false in
-    rw c.refusal_of-then-allowed-le-LAST.ensures (refused _ _ _ (bad_byte _ _ _ (omega arith) (the-base) c.allowed_places-allowed.ensures (omega arith)))
+    rw c.refusal_of-then-allowed-le-LAST.ensures (refused _ _ _ (bad_byte _ _ _ (omega arith) the-base c.allowed_places-allowed.ensures (omega arith)))
 
 pub returns : goal.returns
 returns c =
@@ -36,5 +36,5 @@ returns c =
       c.one_digit-weekday.ensures.value,
       c.meaning-r.ensures,
     ) in
-    let verdict = checked_last a.base s v _ (omega arith) (the-base) c.allowed_places-allowed.ensures (omega arith) f in
+    let verdict = checked_last a.base s v _ (omega arith) the-base c.allowed_places-allowed.ensures (omega arith) f in
     rw (c.told.ensures, c.coasting_in.ensures, c.meaning-r.ensures) (answered a.base s v verdict)

@@ -34,8 +34,8 @@ module _ (base : ℕ) (r : Reading) (coasting : Bool) (buffer : List ℕ) where
 
 pub returns-in-Bad : goal.returns-in-Bad
 returns-in-Bad c =
-    let both = let a = c.args in
-    refused a.base a.r a.coasting a.out.now c.in-Bad.fault _ (sym c.write_fault.ensures ∙ c.in-Bad.is) c.refusal_of.ensures in
+    let a = c.args in
+    let both = refused a.base a.r a.coasting a.out.now c.in-Bad.fault _ (sym c.write_fault.ensures ∙ c.in-Bad.is) c.refusal_of.ensures in
     record { value = both.0; out_after = both.1 }
 
 pub returns : goal.returns

@@ -20,7 +20,7 @@ slice_bounds-store_digits-end c =
     let long : length c.loop-k.cells ≡ 256 = ap length c.loop-k.invariant.1
     ∙ filled-length (cell_digit c.low_bytes-low.result) none (32 * c.loop-k.k) (omega (arith, length-replicate {A = ℕ} 256 0))
     ∙ length-replicate {A = ℕ} 256 0 in
-    sym (long)
+    sym long
 
 pub store_digits-requires : goal.store_digits-requires
 store_digits-requires c =

@@ -11,8 +11,8 @@ use Rattle.pulses.proofs.laying.lay.Goals as goal
 
 pub returns-then-out-end : goal.returns-then-out-end
 returns-then-out-end c =
-    let both = let a = c.args in
-    no_room a.tags.now a.values a.out.now (omega arith) in
+    let a = c.args in
+    let both = no_room a.tags.now a.values a.out.now (omega arith) in
     record { value = both.0; out_after = both.1 }
 
 pub loop-i-init : goal.loop-i-init
@@ -23,7 +23,7 @@ loop-i-init c =
 pub slice_bounds-pick-end : goal.slice_bounds-pick-end
 slice_bounds-pick-end c =
     let board-long : length c.cells_of-cells.result ≡ 256 = ap length c.cells_of-cells.ensures ∙ length_cells c.args.values in
-    sym (board-long)
+    sym board-long
 
 pub pick-requires : goal.pick-requires
 pick-requires c =
@@ -41,7 +41,7 @@ loop-i-preserved c =
 pub slice_bounds-pick-end-2 : goal.slice_bounds-pick-end-2
 slice_bounds-pick-end-2 c =
     let board-long : length c.cells_of-cells.result ≡ 256 = ap length c.cells_of-cells.ensures ∙ length_cells c.args.values in
-    sym (board-long)
+    sym board-long
 
 pub pick-requires-2 : goal.pick-requires-2
 pick-requires-2 c =
@@ -58,10 +58,10 @@ shape_of-out c =
 
 pub returns : goal.returns
 returns c =
-    let both = let a = c.args in
+    let a = c.args in
     let f = picked a.tags.now c.cells_of-cells.result in
     let n : ℕ = length a.tags.now - c.loop-i.i in
     let h : c.loop-i.i + n ≤ length a.out.now = omega arith in
-    all_laid a.tags.now a.values a.out.now (omega arith) c.cells_of-cells.result _ (c.loop-i.i + n) c.cells_of-cells.ensures
+    let both = all_laid a.tags.now a.values a.out.now (omega arith) c.cells_of-cells.result _ (c.loop-i.i + n) c.cells_of-cells.ensures
     (filled_on f c.loop-i.i n a.out.now c.loop-i.out _ c.loop-i.invariant.1 c.pick-2.ensures h) (omega arith) in
     record { value = both.0; out_after = both.1 }

@@ -11,7 +11,7 @@ loop-i-init c = (omega arith, cells_none _ _)
 pub slice_bounds-put-end : goal.slice_bounds-put-end
 slice_bounds-put-end c =
     let long : length c.loop-i.cells ≡ 256 = ap length c.loop-i.invariant.1 ∙ cells_long c.args.tags.now c.args.pulses.now c.loop-i.i in
-    sym (long)
+    sym long
 
 pub put-requires : goal.put-requires
 put-requires c = record {
@@ -25,7 +25,7 @@ loop-i-preserved c = (omega arith, c.put.ensures)
 pub slice_bounds-put-end-2 : goal.slice_bounds-put-end-2
 slice_bounds-put-end-2 c =
     let long : length c.loop-i.cells ≡ 256 = ap length c.loop-i.invariant.1 ∙ cells_long c.args.tags.now c.args.pulses.now c.loop-i.i in
-    sym (long)
+    sym long
 
 pub put-requires-2 : goal.put-requires-2
 put-requires-2 c = record {

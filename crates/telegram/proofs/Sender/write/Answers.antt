@@ -61,29 +61,29 @@ module _ (base : ℕ) (sender : Sender) (sent : Sent) (head : ℕ) (out : List �
 
 pub returns-then-out-lt-LENGTH : goal.returns-then-out-lt-LENGTH
 returns-then-out-lt-LENGTH c =
-    let both = let a = c.args in
-    too_short a.base a.self a.sent a.head a.out.now c.refusal_of.result c.refuse.result c.refuse.new.out c.if-out-lt-LENGTH.true
+    let a = c.args in
+    let both = too_short a.base a.self a.sent a.head a.out.now c.refusal_of.result c.refuse.result c.refuse.new.out c.if-out-lt-LENGTH.true
     c.refusal_of.ensures c.refuse.ensures.value c.refuse.ensures.out_unchanged in
     record { value = both.0; out_after = both.1 }
 
 pub returns-then-not-is_base : goal.returns-then-not-is_base
 returns-then-not-is_base c =
-    let both = let a = c.args in
-    other_base_lem a.base a.self a.sent a.head a.out.now c.refusal_of-then-not-is_base.result c.refuse-then-not-is_base.result c.refuse-then-not-is_base.new.out c.if-out-lt-LENGTH.false
+    let a = c.args in
+    let both = other_base_lem a.base a.self a.sent a.head a.out.now c.refusal_of-then-not-is_base.result c.refuse-then-not-is_base.result c.refuse-then-not-is_base.new.out c.if-out-lt-LENGTH.false
     (sym c.is_base.ensures ∙ c.if-not-is_base.true) c.refusal_of-then-not-is_base.ensures c.refuse-then-not-is_base.ensures.value c.refuse-then-not-is_base.ensures.out_unchanged in
     record { value = both.0; out_after = both.1 }
 
 pub returns-in-Good : goal.returns-in-Good
 returns-in-Good c =
-    let both = let a = c.args in
-    wrote a.base a.self a.sent a.head a.out.now c.telegram_reading-r.result c.send_fault-verdict.result c.telegram_reading-r.ensures c.send_fault-verdict.ensures
+    let a = c.args in
+    let both = wrote a.base a.self a.sent a.head a.out.now c.telegram_reading-r.result c.send_fault-verdict.result c.telegram_reading-r.ensures c.send_fault-verdict.ensures
     c.write.result c.write.new.out c.in-Good.is c.write.ensures.value c.write.ensures.out_after in
     record { value = both.0; out_after = both.1 }
 
 pub returns-in-Bad : goal.returns-in-Bad
 returns-in-Bad c =
-    let both = let a = c.args in
-    bad a.base a.self a.sent a.head a.out.now c.telegram_reading-r.result c.send_fault-verdict.result c.telegram_reading-r.ensures c.send_fault-verdict.ensures
+    let a = c.args in
+    let both = bad a.base a.self a.sent a.head a.out.now c.telegram_reading-r.result c.send_fault-verdict.result c.telegram_reading-r.ensures c.send_fault-verdict.ensures
     c.in-Bad.fault c.refusal_of-in-Bad.result c.refuse-in-Bad.result c.refuse-in-Bad.new.out c.if-out-lt-LENGTH.false c.in-Bad.is c.refusal_of-in-Bad.ensures
     c.refuse-in-Bad.ensures.value c.refuse-in-Bad.ensures.out_unchanged in
     record { value = both.0; out_after = both.1 }
