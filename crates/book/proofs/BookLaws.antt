@@ -1,5 +1,9 @@
 -- What a walk over a book finds: an accepted record is a whole body that its reader accepts, an answer depends on what stands
 -- from its place on, the places rise, and after the end, an unknown kind or a body cut short there is nothing more.
+use Rattle.reading.specs.declared.Refusal.{Refusal}
+use Rattle.book.specs.declared.Record.{Record}
+use Rattle.std.specs.Prelude.{Err, Ok, None, Some, Option}
+use Rattle.std.specs.Iterator.{MakesProgress}
 use mathlib.Core.Path.{◌≡◌, refl, sym, ap, ◌∙◌}
 use mathlib.Core.Bool.{Bool, true, false, cond}
 use mathlib.Core.List.{List, [], ◌∷◌}
@@ -13,13 +17,11 @@ use Rattle.reading.specs.declared.Reading.{Reading}
 use Rattle.reading.specs.declared.Fault.TheVariants.{CutShort, UnknownKind}
 use Rattle.reading.specs.Faults.{number}
 use Rattle.reading.proofs.CheckLaws.{clash}
-use Rattle.book.specs.declared.Said.{Said}
-use Rattle.book.specs.declared.Said.TheVariants.{Time, No}
 use Rattle.book.specs.declared.Walk.{Walk}
-use Rattle.book.specs.declared.Record.TheVariants.{Over, Accepted, Refused}
-use Rattle.book.specs.Body.{read_body, record_of}
-use Rattle.book.specs.Book.{kind_at, length_at, body_at, past, unknown, cut_short, record_at, next_at, Entry, records_within, records_from}
-use Rattle.book.specs.Walking.{turned}
+use Rattle.book.specs.declared.Taken.{Taken}
+use Rattle.book.specs.Body.{read_body, record_of, Said, accepted, refused}
+use Rattle.book.specs.Book.{kind_at, length_at, body_at, past, unknown, cut_short, record_at, next_at, Entry, records_within, records_from, standing_at}
+use Rattle.book.specs.Walking.{turned, at_most_bytes}
 use Rattle.book.proofs.PlaceLaws.{
   Whole,
   over_there,
@@ -55,25 +57,50 @@ place b at = go (past b at) refl (ℕ_discrete (length_at b at) 0) (cut_short b 
 pub record BodyRead (base : ℕ) (b : List ℕ) (at kind : ℕ) (r : Reading) : Type 0 where
   pub there : Whole b at
   pub same : kind ≡ kind_at b at
-  pub said : read_body base kind (body_at b at) ≡ Time r
+  pub said : read_body base kind (body_at b at) ≡ Ok r
 
-pub accepted_there : (base : ℕ) (b : List ℕ) (at kind : ℕ) (r : Reading) → record_at base b at ≡ Accepted kind r → BodyRead base b at kind r
+-- a record that stands there is one
+pub found_one : (x y : Record) → ◌≡◌ {A = Option Record} (Some x) (Some y) → x ≡ y
+found_one x y e = cc
+
+-- where a record stands, the place is one of the book's, and past it nothing stands
+pub there_is : (base : ℕ) (b : List ℕ) (at : ℕ) (found : Record) → record_at base b at ≡ Some found → (at < length b) × (found ≡ standing_at base b at)
+unfolding record_at
+there_is base b at found e = go (past b at) refl e
+  where
+    go : (p : Bool) → past b at ≡ p → cond p None (Some (standing_at base b at)) ≡ Some found → (at < length b) × (found ≡ standing_at base b at)
+    go true k f = let z : ◌≡◌ {A = ℕ} 0 1 = cc in clash z
+    go false k f = (leb-false (length b) at k, sym (found_one _ _ f))
+
+pub nothing_is : (base : ℕ) (b : List ℕ) (at : ℕ) → record_at base b at ≡ None → length b ≤ at
+unfolding record_at
+nothing_is base b at e = go (past b at) refl e
+  where
+    go : (p : Bool) → past b at ≡ p → cond p None (Some (standing_at base b at)) ≡ None → length b ≤ at
+    go true k f = leb-true (length b) at k
+    go false k f = let z : ◌≡◌ {A = ℕ} 0 1 = cc in clash z
+
+pub accepted_there : (base : ℕ) (b : List ℕ) (at kind : ℕ) (r : Reading) → record_at base b at ≡ Some (accepted kind r) → BodyRead base b at kind r
 accepted_there base b at kind r e = go (place b at)
   where
     said : ℕ → Said
     said k = read_body base k (body_at b at)
 
-    by : (a : Said) → said (kind_at b at) ≡ a → record_of (kind_at b at) a ≡ Accepted kind r → (kind ≡ kind_at b at) × (said (kind_at b at) ≡ Time r)
-    by (Time q) p f = (cc, cc)
-    by (No x) p f = let z : ◌≡◌ {A = ℕ} 0 1 = cc in clash z
+    refused_not : {x : Refusal} → record_at base b at ≡ Some (refused (kind_at b at) x) → BodyRead base b at kind r
+    refused_not o =
+        let s = found_one _ _ (sym e ∙ o) in
+        let t : ◌≡◌ {A = Said} (Ok r) (Err _) = ap (λ (z : Record). z.said) s in
+        let z : ◌≡◌ {A = ℕ} 0 1 = cc in clash z
 
     go : Place b at → BodyRead base b at kind r
     go (beyond h) = let o = over_there base b at h in let z : ◌≡◌ {A = ℕ} 0 1 = cc in clash z
-    go (strange h u) = let o = unknown_there base b at h u in let z : ◌≡◌ {A = ℕ} 0 1 = cc in clash z
-    go (short h d l) = let o = cut_there base b at h d l in let z : ◌≡◌ {A = ℕ} 0 1 = cc in clash z
+    go (strange h u) = refused_not (unknown_there base b at h u)
+    go (short h d l) = refused_not (cut_there base b at h d l)
     go (whole w) =
-        let p = by (said (kind_at b at)) refl (sym (whole_there base b at w) ∙ e) in
-        record { there = w; same = p.0; said = ap said p.0 ∙ p.1 }
+        let f : Some (record_of (kind_at b at) (said (kind_at b at))) ≡ Some (accepted kind r) = sym (whole_there base b at w) ∙ e in
+        let same = found_one _ _ f in
+        let k : kind_at b at ≡ kind = ap (λ (z : Record). z.kind) same in
+        record { there = w; same = sym k; said = ap said (sym k) ∙ ap (λ (z : Record). z.said) same }
 
 -- ---- "offsets rise strictly"
 
@@ -115,7 +142,7 @@ module _ (b : List ℕ) (at : ℕ) where
   rest_body = drop-drop 1 at b
 
 pub from_there_on : (base : ℕ) (b : List ℕ) (at : ℕ) → record_at base b at ≡ record_at base (drop at b) 0
-unfolding record_at
+unfolding record_at standing_at
 from_there_on base b at = rw (rest_past b at, rest_kind b at, rest_room b at, rest_body b at)
 
 pub next_from_there_on : (b : List ℕ) (at : ℕ) → at ≤ length b → next_at b at ≡ at + next_at (drop at b) 0
@@ -138,16 +165,16 @@ turns b zero at = at
 turns b (suc n) at = turns b n (next_at b at)
 
 module _ (base : ℕ) (b : List ℕ) where
-  pub over_again : (n at : ℕ) → length b ≤ at → record_at base b (turns b n at) ≡ Over
+  pub over_again : (n at : ℕ) → length b ≤ at → record_at base b (turns b n at) ≡ None
   over_again zero at h = over_there base b at h
   over_again (suc n) at h = over_again n (next_at b at) (omega (arith, from_past b at h))
 
   pub over_after_14 : (n at : ℕ) → at < length b → length_at b at ≡ 0
-      → (record_at base b at ≡ Refused (kind_at b at) (number UnknownKind)) × (record_at base b (turns b (suc n) at) ≡ Over)
+      → (record_at base b at ≡ Some (refused (kind_at b at) (number UnknownKind))) × (record_at base b (turns b (suc n) at) ≡ None)
   over_after_14 n at h u = (unknown_there base b at h u, over_again n (next_at b at) (omega (arith, from_unknown b at h u)))
 
   pub over_after_13 : (n at : ℕ) → at < length b → (length_at b at ≡ 0 → ⊥) → length b - (at + 1) < length_at b at
-      → (record_at base b at ≡ Refused (kind_at b at) (number CutShort)) × (record_at base b (turns b (suc n) at) ≡ Over)
+      → (record_at base b at ≡ Some (refused (kind_at b at) (number CutShort))) × (record_at base b (turns b (suc n) at) ≡ None)
   over_after_13 n at h d l = (cut_there base b at h d l, over_again n (next_at b at) (omega (arith, from_cut b at h d l)))
 
 -- ---- all the records of a book
@@ -174,7 +201,7 @@ module _ (base : ℕ) (b : List ℕ) where
   records_end at h = let z : length b - at ≡ 0 = omega arith in rw z
 
   pub records_step : (at : ℕ) → at < length b
-      → records_from base b at ≡ record { place = at; found = record_at base b at } ∷ records_from base b (next_at b at)
+      → records_from base b at ≡ record { place = at; found = standing_at base b at } ∷ records_from base b (next_at b at)
   unfolding records_from
   records_step at h =
       let n = length b - suc at in
@@ -210,6 +237,21 @@ records_rise base b at = rise_within base b (length b - at) at
 
 -- a walk that is turned until it is over finds the records of its book, one a turn, all with the base that it was started with
 pub turn_finds : (w : Walk) → w.at < length w.book.now
-    → records_from w.base w.book.now w.at
-    ≡ record { place = w.at; found = (turned w).found } ∷ records_from (turned w).walk.base w.book.now (turned w).walk.at
-turn_finds w h = records_step w.base w.book.now w.at h
+    → (found : Record)
+    × ((turned w).found ≡ Some found)
+    × (records_from w.base w.book.now w.at
+    ≡ record { place = w.at; found = found } ∷ records_from (turned w).walk.base w.book.now (turned w).walk.at)
+unfolding record_at
+turn_finds w h =
+    (standing_at w.base w.book.now w.at, rw (lt-leb (length w.book.now) w.at h), records_step w.base w.book.now w.at h)
+
+-- a turn that finds a record leaves fewer bytes of the book
+pub turn_goes : (w : Walk) (taken : Taken) → taken ≡ turned w → MakesProgress (λ _. Unit {0}) at_most_bytes w taken.found taken.walk
+turn_goes w taken e = rw e (go (record_at w.base w.book.now w.at) refl)
+  where
+    go : (found : Option Record) → record_at w.base w.book.now w.at ≡ found → MakesProgress (λ _. Unit {0}) at_most_bytes w found (turned w).walk
+    go None e = record { on = λ _. tt; keeps = tt; rests = λ _. tt }
+    go (Some found) e =
+        let h = there_is w.base w.book.now w.at found e in
+        let r = next_rises w.book.now w.at h.0 in
+        record { on = λ _. (tt, tt, omega arith); keeps = tt; rests = λ _. tt }

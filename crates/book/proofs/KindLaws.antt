@@ -1,5 +1,6 @@
 -- "in the book the kind still fixes the length", and so which string a body is: of kind 1 Meinberg's, of kind 2 Uni Erlangen's; and that another
 -- base than the two refuses every whole body by 19.
+use Rattle.std.specs.Prelude.{Some}
 use mathlib.Core.Bool.{false}
 use mathlib.Core.List.{List}
 use mathlib.Core.Path.{◌≡◌, ap, ◌∙◌}
@@ -14,8 +15,7 @@ use Rattle.meinberg.specs.Meaning.{read_meinberg}
 use Rattle.erlangen.specs.Meaning.{read_erlangen}
 use Rattle.clock_string.specs.Reader.{as_meinberg, as_erlangen, read_string}
 use Rattle.clock_string.proofs.ReadLaws.{at_32, at_68}
-use Rattle.book.specs.declared.Record.TheVariants.{Refused}
-use Rattle.book.specs.Body.{body_length, record_of}
+use Rattle.book.specs.Body.{Said, body_length, record_of, refused}
 use Rattle.book.specs.Book.{kind_at, length_at, body_at, record_at}
 use Rattle.book.proofs.PlaceLaws.{Whole, whole_there}
 use Rattle.book.proofs.BodyLaws.{other_base_body}
@@ -34,7 +34,7 @@ module _ (base : ℕ) (b : List ℕ) (at : ℕ) (w : Whole b at) where
   kind_2_is_erlangen k = at_68 base (body_at b at) (kind_fixes_length b at w ∙ ap body_length k)
 
   -- a whole body of any kind, with a base that is neither 1990 nor 2000
-  pub other_base_there : is_base base ≡ false → record_at base b at ≡ Refused (kind_at b at) (number OtherBase)
+  pub other_base_there : is_base base ≡ false → record_at base b at ≡ Some (refused (kind_at b at) (number OtherBase))
   other_base_there g =
       whole_there base b at w
-      ∙ ap (record_of (kind_at b at)) (other_base_body base (kind_at b at) (body_at b at) g w.known (kind_fixes_length b at w))
+      ∙ ap (λ (a : Said). Some (record_of (kind_at b at) a)) (other_base_body base (kind_at b at) (body_at b at) g w.known (kind_fixes_length b at w))

@@ -1,5 +1,5 @@
 -- Any two answers that the contract of a public function allows coincide. Each line speaks of the generated contract itself.
-use mathlib.Core.Path.{◌≡◌, refl, ◌∙◌, sym}
+use mathlib.Core.Path.{◌≡◌, refl, ◌∙◌, sym, ap}
 use seplogic.Ra.Ura.{Ura}
 use package.base.Logic.{SProp}
 use prog.Memory.{Memory}
@@ -10,7 +10,11 @@ use contract.Monad.{Fun, fact}
 use denote.Triple.Entry.{Args, Res}
 use denote.Triple.Clauses.{Ended, AtExit, Clauses}
 use Rattle.laws.proofs.Coincide.{Coincide}
-use Rattle.book.specs.Walking.{walk_over, turned}
+use Rattle.std.specs.Prelude.{Option}
+use Rattle.book.specs.declared.Record.{Record}
+use Rattle.book.specs.declared.Walk.{Walk}
+use Rattle.book.specs.declared.Taken.{Taken}
+use Rattle.book.specs.Walking.{walk_over, turned, Turns}
 use Rattle.book.proofs.record_at.Kinds as record-kinds
 use Rattle.book.proofs.record_at.Reads as record-reads
 use Rattle.book.proofs.next_at.Kinds as next-kinds
@@ -19,12 +23,10 @@ use Rattle.book.proofs.first.Kinds as first-kinds
 use Rattle.book.proofs.first.Reads as first_reads
 use Rattle.book.proofs.stamps.stamping_of.Kinds as stamping-kinds
 use Rattle.book.proofs.stamps.stamping_of.Reads as stamping-reads
-use Rattle.book.proofs.body.body_length.Kinds as body-length-kinds
-use Rattle.book.proofs.body.body_length.Reads as body-length-reads
-use Rattle.book.proofs.body.read_body.Kinds as read-body-kinds
-use Rattle.book.proofs.body.read_body.Reads as read-body-reads
-use Rattle.book.proofs.body.record_of.Kinds as record-of-kinds
-use Rattle.book.proofs.body.record_of.Reads as record-of-reads
+use Rattle.book.proofs.body.Kind.body_length.Kinds as body-length-kinds
+use Rattle.book.proofs.body.Kind.body_length.Reads as body-length-reads
+use Rattle.book.proofs.body.Kind.read.Kinds as read-body-kinds
+use Rattle.book.proofs.body.Kind.read.Reads as read-body-reads
 use Rattle.book.specs.contracts.Walk.over as over
 use Rattle.book.specs.contracts.Walk.turn as turn
 
@@ -58,6 +60,12 @@ over_one κs a = ((λ w. w ≡ walk_over a.0 a.1.0), ((λ M 𝓤 𝓛 mem run g 
 pub turn_one : Pinned turn.ended (λ M 𝓤 𝓛 mem run. turn.clauses 𝓛 mem run)
 turn_one κs a = ((λ t. t ≡ turned a.0), ((λ M 𝓤 𝓛 mem run g r e. refl), λ x y p q. p ∙ sym q))
 
+-- and what `Turns` says of a walk's `next`
+pub next_one : (w : Walk) (found other : Option Record) (past beyond : Walk) → Turns w found past → Turns w other beyond → (found ≡ other) × (past ≡ beyond)
+next_one w found other past beyond p q =
+    let same : ◌≡◌ {A = Taken} (record { walk = past; found = found }) (record { walk = beyond; found = other }) = sym p ∙ q in
+    (ap (λ (t : Taken). t.found) same, ap (λ (t : Taken). t.walk) same)
+
 -- ---- what the crate's own files call
 
 pub body_length-one : Coincide 0 body-length-kinds.ps body-length-kinds.r body-length-reads.Post
@@ -65,6 +73,3 @@ body_length-one κs a x y e f p q = cc
 
 pub read_body_one : Coincide 1 read-body-kinds.ps read-body-kinds.r read-body-reads.Post
 read_body_one κs a x y e f p q = cc
-
-pub record_of_one : Coincide 0 record-of-kinds.ps record-of-kinds.r record-of-reads.Post
-record_of_one κs a x y e f p q = cc

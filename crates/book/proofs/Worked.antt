@@ -34,11 +34,9 @@ use Rattle.dcf77_table.specs.Table.{shared_marks, last_marks, minute_marks}
 use Rattle.dcf77.specs.Zones.{offset_in, zone_of, zone_bad}
 use Rattle.dcf77.specs.Forms.{last_of, due_long}
 use Rattle.dcf77.specs.Reader.{is_long, table_for, says, reading_of as minuteReading, length_bad, digit_fault, odd, parity_fault, field_fault, rule_fault, said_fault, read_fault, read_dcf77}
-use Rattle.book.specs.declared.Record.TheVariants.{Accepted, Refused}
-use Rattle.book.specs.declared.Stamping.TheVariants.{Stamped, Unstamped}
-use Rattle.book.specs.Body.{body_length, read_body}
-use Rattle.book.specs.Book.{record_at, next_at, records_from, records}
-use Rattle.book.specs.Stamps.{stamping_of}
+use Rattle.book.specs.Body.{body_length, read_body, accepted, refused}
+use Rattle.book.specs.Book.{standing_at, next_at, records_from, records}
+use Rattle.book.specs.Stamps.{stamping_of, stamped, unstamped}
 
 -- ---- the readings
 
@@ -170,16 +168,16 @@ unfolding body_length
 worked_lengths = refl
 
 pub worked_books :
-    (records base case_book ≡ record { place = 0; found = Accepted 1 reading2 } ∷ record { place = 33; found = Refused 9 (refusal 14 0) } ∷ [])
+    (records base case_book ≡ record { place = 0; found = accepted 1 reading2 } ∷ record { place = 33; found = refused 9 (refusal 14 0) } ∷ [])
     × (records base kinds_book
-    ≡ record { place = 0; found = Accepted 1 reading9 }
-    ∷ record { place = 33; found = Accepted 2 reading6 }
-    ∷ record { place = 102; found = Accepted 3 reading6 }
-    ∷ record { place = 203; found = Accepted 4 reading8 }
-    ∷ record { place = 264; found = Accepted 5 new_year }
+    ≡ record { place = 0; found = accepted 1 reading9 }
+    ∷ record { place = 33; found = accepted 2 reading6 }
+    ∷ record { place = 102; found = accepted 3 reading6 }
+    ∷ record { place = 203; found = accepted 4 reading8 }
+    ∷ record { place = 264; found = accepted 5 new_year }
     ∷ [])
-    × (records base short_book ≡ record { place = 0; found = Refused 5 (refusal 13 0) } ∷ [])
-unfolding records_from record_at next_at body_length read_body number
+    × (records base short_book ≡ record { place = 0; found = refused 5 (refusal 13 0) } ∷ [])
+unfolding records_from standing_at next_at body_length read_body number
     year_of west east offset_good local_of utc_minutes on_day utc_of closes_with_leap leap_minute sixty_bad after_leap
     leap_year days_in days_before year_length days_before_year day_of_year day_number weekday_of is_month last_day is_day day_before day_after year_after month_up_to in_year month_day
     digit pair packed exactly from either one_of within beside allowed good_places day_bad month_bad weekday_bad weekday_wrong fault_of
@@ -192,13 +190,13 @@ worked_books = (refl, refl, refl)
 
 -- case 9 is "accepted, its stamp is code 12", which by L12 "is now -1801"; with the base 1990 the first half hour of 1990 is 12
 pub worked_stamps :
-    (stamping_of base (Accepted 1 reading2) ≡ Stamped 1 (since (pos 536550209)))
-    × (stamping_of base (Accepted 1 reading9) ≡ Stamped 1 (since (negsuc 1800)))
-    × (stamping_of base (Accepted 2 reading6) ≡ Stamped 2 (since (pos 762530521)))
-    × (stamping_of base (Accepted 3 reading6) ≡ Stamped 3 (since (pos 762530521)))
-    × (stamping_of base (Accepted 4 reading8) ≡ Stamped 4 (since (pos 762530465)))
-    × (stamping_of base (Accepted 5 new_year) ≡ Stamped 5 (since (pos 536550210)))
-    × (stamping_of 1990 (Accepted 1 before1990) ≡ Unstamped 1 (refusal 12 0))
+    (stamping_of base (accepted 1 reading2) ≡ stamped 1 (since (pos 536550209)))
+    × (stamping_of base (accepted 1 reading9) ≡ stamped 1 (since (negsuc 1800)))
+    × (stamping_of base (accepted 2 reading6) ≡ stamped 2 (since (pos 762530521)))
+    × (stamping_of base (accepted 3 reading6) ≡ stamped 3 (since (pos 762530521)))
+    × (stamping_of base (accepted 4 reading8) ≡ stamped 4 (since (pos 762530465)))
+    × (stamping_of base (accepted 5 new_year) ≡ stamped 5 (since (pos 536550210)))
+    × (stamping_of 1990 (accepted 1 before1990) ≡ unstamped 1 (refusal 12 0))
 unfolding stamp_of stamp_at stamp_number has_stamp checked_of time_bad date_bad in_hundred offset_good number
     leap_year days_in days_before year_length days_before_year day_of_year day_number is_month last_day is_day is_date day_before
     closes_with_leap leap_minute sixty_bad west east utc_minutes on_day utc_of first_year is_base sound_of count_of count_zero

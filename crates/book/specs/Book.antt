@@ -1,10 +1,9 @@
 -- The records of a book: what stands at a place, where the walk goes from there, and all that it finds.
-use Rattle.std.specs.Prelude.{Bool, cond, List, [], ◌∷◌, ℕ, zero, suc, ◌+◌, ◌-◌, length, get_or, take, drop, leb, ltb, eqb}
+use Rattle.std.specs.Prelude.{Bool, cond, List, [], ◌∷◌, ℕ, zero, suc, ◌+◌, ◌-◌, length, get_or, take, drop, leb, ltb, eqb, Option, None, Some, Err}
 use Rattle.reading.specs.declared.Fault.TheVariants.{CutShort, UnknownKind}
 use Rattle.reading.specs.Faults.{number}
 use Rattle.book.specs.declared.Record.{Record}
-use Rattle.book.specs.declared.Record.TheVariants.{Over, Refused}
-use Rattle.book.specs.Body.{body_length, read_body, record_of}
+use Rattle.book.specs.Body.{Said, body_length, read_body, refused, record_of}
 
 -- the byte of kind at a place
 abbrev pub kind_at : List ℕ → ℕ → ℕ
@@ -30,13 +29,22 @@ unknown b at = eqb (length_at b at) 0
 abbrev pub cut_short : List ℕ → ℕ → Bool
 cut_short b at = ltb (length b - (at + 1)) (length_at b at)
 
--- what stands at a place, in a hundred of years that starts with a base year: past the end that "the walk is over"; 14; 13;
--- else "the body, starting in the middle of the book, is handed to its reader", and what that says is the answer
-unfoldable pub record_at : ℕ → List ℕ → ℕ → Record
-record_at base b at =
-    cond (past b at) Over
-    (cond (unknown b at) (Refused (kind_at b at) (number UnknownKind))
-    (cond (cut_short b at) (Refused (kind_at b at) (number CutShort)) (record_of (kind_at b at) (read_body base (kind_at b at) (body_at b at)))))
+-- what is said of the bytes behind a byte of kind: 14; 13; else what the kind's reader says of the body, the first of them
+unfoldable pub said_of : ℕ → ℕ → List ℕ → Said
+said_of base kind behind =
+    cond (eqb (body_length kind) 0) (Err (number UnknownKind))
+    (cond (ltb (length behind) (body_length kind)) (Err (number CutShort)) (read_body base kind (take (body_length kind) behind)))
+
+-- what stands at a place of the book, in a hundred of years that starts with a base year: 14; 13; else "the body, starting in the
+-- middle of the book, is handed to its reader", and what that says is the answer
+unfoldable pub standing_at : ℕ → List ℕ → ℕ → Record
+standing_at base b at =
+    cond (unknown b at) (refused (kind_at b at) (number UnknownKind))
+    (cond (cut_short b at) (refused (kind_at b at) (number CutShort)) (record_of (kind_at b at) (read_body base (kind_at b at) (body_at b at))))
+
+-- and past the end that "the walk is over"
+unfoldable pub record_at : ℕ → List ℕ → ℕ → Option Record
+record_at base b at = cond (past b at) None (Some (standing_at base b at))
 
 -- "A refused body doesn't stop the walk; after 13 or 14, as at the book's end," it goes to the end
 unfoldable pub next_at : List ℕ → ℕ → ℕ
@@ -53,7 +61,7 @@ pub record Entry : Type 0 where
 abbrev pub records_within : ℕ → List ℕ → ℕ → ℕ → List Entry
 records_within base b zero at = []
 records_within base b (suc n) at =
-    cond (past b at) [] (record { place = at; found = record_at base b at } ∷ records_within base b n (next_at b at))
+    cond (past b at) [] (record { place = at; found = standing_at base b at } ∷ records_within base b n (next_at b at))
 
 -- all that a walk finds from a place on: a record is a byte long at least, so there are no more of them than bytes
 unfoldable pub records_from : ℕ → List ℕ → ℕ → List Entry

@@ -1,6 +1,8 @@
 -- A walk over a lent book: where it starts, and what one turn of it gives.
-use Rattle.std.specs.Prelude.{List, ℕ}
+use Rattle.std.specs.Prelude.{List, ℕ, ◌-◌, length, ◌≡◌, Option}
 use Rattle.std.specs.Borrow.{Bor}
+use Rattle.std.specs.Iterator.{Count, at_most}
+use Rattle.book.specs.declared.Record.{Record}
 use Rattle.book.specs.declared.Walk.{Walk}
 use Rattle.book.specs.declared.Taken.{Taken}
 use Rattle.book.specs.Book.{record_at, next_at}
@@ -16,3 +18,11 @@ turned w =
       walk = record { book = w.book; at = next_at w.book.now w.at; base = w.base };
       found = record_at w.base w.book.now w.at;
     }
+
+-- a turn of a walk found this, and left the walk past it
+abbrev pub Turns : Walk → Option Record → Walk → Type 0
+Turns w found past = turned w ≡ record { walk = past; found = found }
+
+-- a record is a byte long at least, so there are no more of them than bytes from the walk's place on
+abbrev pub at_most_bytes : Walk → Count
+at_most_bytes w = at_most (length w.book.now - w.at)

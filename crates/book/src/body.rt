@@ -1,74 +1,65 @@
-// The body of a record: how long the kind makes it, and what its reader says of it.
+// The kinds of record: how long a kind makes its body, and what the kind's reader says of one.
 ghost use Rattle.std.specs.Prelude.{◌≡◌};
-ghost use Rattle.book.specs.Body.{body_length, of_string, of_frame, of_minute, read_body, record_of};
+ghost use Rattle.book.specs.Body.{byte_of, Names, body_length, read_body};
 
-use super::{Record, Said};
 use clock_string::read;
 use dcf77::Dcf77;
 use erlangen::Erlangen;
 use irig::Ieee1344;
 use meinberg::Meinberg;
+use reading::{Fault, Reading, Refusal};
 
-// 0 for an unknown kind.
-pub(crate) fn body_length(kind: u8) -> usize
-    ensures { result ≡ body_length kind }
-{
-    match kind {
-        1 => Meinberg::LENGTH,
-        2 => Erlangen::LENGTH,
-        3 => Ieee1344::LENGTH,
-        4 => Dcf77::LENGTH,
-        5 => Dcf77::LONG_LENGTH,
-        _ => 0,
+// What a body is, by the byte that stands before it.
+#[derive(Clone, Copy, Debug, PartialEq, Eq)]
+pub(crate) enum Kind {
+    Meinberg,
+    Erlangen,
+    Frame,
+    Minute,
+    LongMinute,
+}
+
+impl TryFrom<u8> for Kind {
+    type Error = Fault;
+
+    ghost try_from_gives = { Names };
+
+    #[tactic(auto, unfolding(crate::specs::Body::body_length))]
+    fn try_from(byte: u8) -> Result<Self, Fault> {
+        match byte {
+            1 => Ok(Kind::Meinberg),
+            2 => Ok(Kind::Erlangen),
+            3 => Ok(Kind::Frame),
+            4 => Ok(Kind::Minute),
+            5 => Ok(Kind::LongMinute),
+            _ => Err(Fault::UnknownKind),
+        }
     }
 }
 
-fn of_string(answer: clock_string::Answer) -> Said
-    ensures { result ≡ of_string answer }
-{
-    match answer {
-        clock_string::Answer::Meinberg(reading, _) => Said::Time(reading),
-        clock_string::Answer::Erlangen(reading, _) => Said::Time(reading),
-        clock_string::Answer::No(refusal) => Said::No(refusal),
+impl Kind {
+    #[tactic(auto, unfolding(crate::specs::Body::body_length))]
+    pub(crate) fn body_length(self) -> usize
+        ensures { result ≡ body_length (byte_of self) }
+    {
+        match self {
+            Kind::Meinberg => Meinberg::LENGTH,
+            Kind::Erlangen => Erlangen::LENGTH,
+            Kind::Frame => Ieee1344::LENGTH,
+            Kind::Minute => Dcf77::LENGTH,
+            Kind::LongMinute => Dcf77::LONG_LENGTH,
+        }
     }
-}
 
-fn of_frame(answer: irig::Answer) -> Said
-    ensures { result ≡ of_frame answer }
-{
-    match answer {
-        irig::Answer::Time(reading) => Said::Time(reading),
-        irig::Answer::No(refusal) => Said::No(refusal),
-    }
-}
-
-fn of_minute(answer: dcf77::Answer) -> Said
-    ensures { result ≡ of_minute answer }
-{
-    match answer {
-        dcf77::Answer::Time(reading, _) => Said::Time(reading),
-        dcf77::Answer::No(refusal) => Said::No(refusal),
-    }
-}
-
-// Where a kind is unknown no body is read; the definition gives such a body to the last reader.
-pub(crate) fn read_body(base: u16, kind: u8, body: &[u8]) -> Said
-    ensures { result ≡ read_body base kind body.now }
-{
-    match kind {
-        1 => of_string(read(base, body)),
-        2 => of_string(read(base, body)),
-        3 => of_frame(Ieee1344::read(base, body)),
-        _ => of_minute(Dcf77::read(base, body)),
-    }
-}
-
-// What its reader says of a body, with the kind.
-pub(crate) fn record_of(kind: u8, said: Said) -> Record
-    ensures { result ≡ record_of kind said }
-{
-    match said {
-        Said::Time(reading) => Record::Accepted(kind, reading),
-        Said::No(refusal) => Record::Refused(kind, refusal),
+    // The time alone, without the coasting mark or the head that stands beside it.
+    #[tactic(auto, unfolding(crate::specs::Body::read_body))]
+    pub(crate) fn read(self, base: u16, body: &[u8]) -> Result<Reading, Refusal>
+        ensures { result ≡ read_body base (byte_of self) body.now }
+    {
+        match self {
+            Kind::Meinberg | Kind::Erlangen => Ok(read(base, body)?.timed().0),
+            Kind::Frame => Ieee1344::read(base, body),
+            Kind::Minute | Kind::LongMinute => Ok(Dcf77::read(base, body)?.0),
+        }
     }
 }

@@ -1,5 +1,6 @@
 -- The reading that goes over: quality 15 where the coasting mark stands and the way is L7's, else the string's own. All else is 01's, and
 -- so it passes the checks that every writer shares.
+use Rattle.reading.specs.Faults.{no_fault}
 use mathlib.Core.Bool.{Bool, true, false}
 use mathlib.Core.Logic.{◌⊎◌, inl, inr, ◌↔◌}
 use mathlib.Core.Path.{◌≡◌, refl, ap, ◌∙◌}
@@ -7,7 +8,6 @@ use Prim.Native.Nat.{ℕ, ◌≤◌}
 use native.Mathlib.Omega.{arith}
 use Rattle.laws.proofs.Bools.{never}
 use Rattle.reading.specs.declared.Reading.{Reading}
-use Rattle.reading.specs.declared.Verdict.TheVariants.{Good}
 use Rattle.reading.specs.Universal.{utc_of}
 use Rattle.reading.specs.Checks.{checked_of}
 use Rattle.reading.proofs.CheckLaws.{Checked, checked_is, is_checked}
@@ -107,7 +107,7 @@ within_fifteen Worse false own h = h
 within_fifteen Dropped coasting own h = h
 
 -- a good reading stays good, whichever way it goes over
-pub carried_good : (base : ℕ) (way : Coasting) (coasting : Bool) (r : Reading) → checked_of base r ≡ Good → checked_of base (carried_by way coasting r) ≡ Good
+pub carried_good : (base : ℕ) (way : Coasting) (coasting : Bool) (r : Reading) → checked_of base r ≡ no_fault → checked_of base (carried_by way coasting r) ≡ no_fault
 unfolding carried_by
 carried_good base way coasting r e =
     let c = checked_is base (pending_of r) (pending_checked base r ∙ e) in

@@ -1,4 +1,6 @@
 -- The code and place of each refusal of the bridge: the first of the order of the codes whose condition holds, and its lowest place.
+use Rattle.reading.specs.Writing.{Written}
+use Rattle.std.specs.Prelude.{Err, Ok}
 use mathlib.Core.Bool.{Bool, true, false, cond}
 use mathlib.Core.List.{List, [], ◌∷◌, ◌++◌}
 use mathlib.Core.Path.{◌≡◌, refl}
@@ -6,16 +8,12 @@ use Prim.Native.Nat.{ℕ}
 use lib.Dec.{ltb}
 use Rattle.reading.specs.declared.Refusal.{Refusal}
 use Rattle.reading.specs.declared.Fault.TheVariants.{Length, NotCarried}
-use Rattle.reading.specs.declared.Written.{Written}
-use Rattle.reading.specs.declared.Written.TheVariants.{Length as Wrote, No as Refused}
 use Rattle.reading.specs.Faults.{number}
 use Rattle.reading.specs.Refusals.{Objection, objection, Owed}
 use Rattle.reading.specs.Objections.{WrittenOwed}
 use Rattle.reading.proofs.RefusalLaws.{quiet_later, owed_later, length-owed, quiet_ends, owed_ends, last_owed}
 use Rattle.reading.proofs.OneDue.{owed_more, owed_one}
-use Rattle.strings.specs.declared.Answer.{Answer}
-use Rattle.strings.specs.declared.Answer.TheVariants.{Time, No}
-use Rattle.strings.specs.Checks.{AnswerOwed}
+use Rattle.strings.specs.Checks.{AnswerOwed, Answer}
 use Rattle.clock_string.specs.Reader.{read_string, whichever}
 use Rattle.clock_string.specs.Objections.{read_objections, read_codes}
 use Rattle.clock_string.proofs.OwedLaws.{read_owed}
@@ -28,19 +26,19 @@ use Rattle.bridge.specs.Objections.{odd_said, bridge_objections, bridge_codes}
 quarter_owed : (l : List Objection) (a : Answer) → AnswerOwed l read_codes a
     → WrittenOwed (l ++ (objection (odd_said a) 11 0 ∷ [])) bridge_codes (answer_for a)
 unfolding odd_said number
-quarter_owed l (Time r coasting) p = go (odd_quarter r.offset.0)
+quarter_owed l (Ok (r, coasting)) p = go (odd_quarter r.offset.0)
   where
-    go : (odd : Bool) → WrittenOwed (l ++ (objection odd 11 0 ∷ [])) bridge_codes (cond odd (Refused (number NotCarried)) (Wrote frame_length))
+    go : (odd : Bool) → WrittenOwed (l ++ (objection odd 11 0 ∷ [])) bridge_codes (cond odd (Err (number NotCarried)) (Ok frame_length))
     go true = last_owed 11 0 l bridge_codes p refl
     go false = quiet_ends l (objection false 11 0) refl p
-quarter_owed l (No x) p = owed_ends l (objection false 11 0) bridge_codes x refl (owed_more l read_codes bridge_codes x refl p)
+quarter_owed l (Err x) p = owed_ends l (objection false 11 0) bridge_codes x refl (owed_more l read_codes bridge_codes x refl p)
 
 -- before all of it the room
 with_room : (l : List Objection) (short : Bool) (w : Written) → WrittenOwed l bridge_codes w
-    → WrittenOwed (objection short 1 0 ∷ l) bridge_codes (cond short (Refused (number Length)) w)
+    → WrittenOwed (objection short 1 0 ∷ l) bridge_codes (cond short (Err (number Length)) w)
 with_room l true w p = length-owed l bridge_codes refl
-with_room l false (Wrote n) p = quiet_later (objection false 1 0) l refl p
-with_room l false (Refused x) p = owed_later (objection false 1 0) l bridge_codes x refl p
+with_room l false (Ok n) p = quiet_later (objection false 1 0) l refl p
+with_room l false (Err x) p = owed_later (objection false 1 0) l bridge_codes x refl p
 
 pub bridge_owed : (base : ℕ) (s : List ℕ) (room : ℕ) → WrittenOwed (bridge_objections base s room) bridge_codes (bridge_answer base s room)
 unfolding bridge_objections bridge_answer

@@ -1,15 +1,13 @@
 -- What the bridge makes of a clock string, whichever it is: its answer, and what the lent buffer then holds. 01's paragraph as L7
 -- and L9 amend it: what becomes of the coasting mark is the caller's to name, and an odd quarter does not go over.
-use Rattle.std.specs.Prelude.{Bool, cond, ◌&&◌, List, ◌++◌, ℕ, ltb, length, drop}
+use Rattle.strings.specs.Checks.{Answer}
+use Rattle.reading.specs.Writing.{Written}
+use Rattle.std.specs.Prelude.{Bool, cond, ◌&&◌, List, ◌++◌, ℕ, ltb, length, drop, Err, Ok}
 use Rattle.reading.specs.declared.Reading.{Reading}
 use Rattle.reading.specs.declared.Fault.TheVariants.{Length, NotCarried}
-use Rattle.reading.specs.declared.Written.{Written}
-use Rattle.reading.specs.declared.Written.TheVariants.{Length as Wrote, No as Refused}
 use Rattle.reading.specs.Faults.{number}
 use Rattle.reading.specs.Universal.{utc_of}
 use Rattle.reading.specs.Leap.{leap_window, change_window}
-use Rattle.strings.specs.declared.Answer.{Answer}
-use Rattle.strings.specs.declared.Answer.TheVariants.{Time, No}
 use Rattle.clock_string.specs.Reader.{read_string, whichever}
 use Rattle.irig.specs.Offset.{odd_quarter}
 use Rattle.irig.specs.Faults.{frame_length}
@@ -66,19 +64,19 @@ carried_by way coasting r = graded (quality_by way coasting r.quality) (pending_
 -- the answer where there is room, whichever way: the string's own refusal; of a string that says a time the length of a frame, but
 -- by L9 "an odd quarter at .. the bridge is 11"
 abbrev pub answer_for : Answer → Written
-answer_for (Time r coasting) = cond (odd_quarter r.offset.0) (Refused (number NotCarried)) (Wrote frame_length)
-answer_for (No refusal) = Refused refusal
+answer_for (Ok (r, coasting)) = cond (odd_quarter r.offset.0) (Err (number NotCarried)) (Ok frame_length)
+answer_for (Err refusal) = Err refusal
 
 -- the buffer where there is room: the frame before the rest; a refusal leaves it as it was
 abbrev pub bytes_for : Coasting → Answer → List ℕ → List ℕ
-bytes_for way (Time r coasting) buffer =
+bytes_for way (Ok (r, coasting)) buffer =
     cond (odd_quarter r.offset.0) buffer (frame_of (carried_by way coasting r) ++ drop frame_length buffer)
-bytes_for way (No refusal) buffer = buffer
+bytes_for way (Err refusal) buffer = buffer
 
 -- "The bridge checks output length first." By L1 it "loses its kind argument": the string is read by its length. L7: "Refusals:
 -- none", so that the answer does not know the way.
 unfoldable pub bridge_answer : ℕ → List ℕ → ℕ → Written
-bridge_answer base s room = cond (ltb room frame_length) (Refused (number Length)) (answer_for (whichever (read_string base s)))
+bridge_answer base s room = cond (ltb room frame_length) (Err (number Length)) (answer_for (whichever (read_string base s)))
 
 -- what the buffer holds afterwards
 unfoldable pub bridge_filled : Coasting → ℕ → List ℕ → List ℕ → List ℕ

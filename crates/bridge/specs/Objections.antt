@@ -1,17 +1,16 @@
 -- What can be wrong with a string that is to go over the bridge, with code and place: the room first, then what its reader objects,
 -- and last an offset that no frame carries.
-use Rattle.std.specs.Prelude.{Bool, false, List, [], ◌∷◌, ◌++◌, ℕ, ltb}
+use Rattle.strings.specs.Checks.{Answer}
+use Rattle.std.specs.Prelude.{Bool, false, List, [], ◌∷◌, ◌++◌, ℕ, ltb, Err, Ok}
 use Rattle.reading.specs.Refusals.{Objection, objection}
-use Rattle.strings.specs.declared.Answer.{Answer}
-use Rattle.strings.specs.declared.Answer.TheVariants.{Time, No}
 use Rattle.clock_string.specs.Reader.{read_string, whichever}
 use Rattle.clock_string.specs.Objections.{read_objections, read_codes}
 use Rattle.irig.specs.Offset.{odd_quarter}
 
 -- a time is said, at an odd quarter
 unfoldable pub odd_said : Answer → Bool
-odd_said (Time r coasting) = odd_quarter r.offset.0
-odd_said (No x) = false
+odd_said (Ok (r, coasting)) = odd_quarter r.offset.0
+odd_said (Err x) = false
 
 -- with room for so many pulses: "The bridge checks output length first"; L9: "an odd quarter at .. the bridge is 11"
 unfoldable pub bridge_objections : ℕ → List ℕ → ℕ → List Objection

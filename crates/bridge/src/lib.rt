@@ -6,108 +6,69 @@
 ghost use Rattle.std.specs.Prelude.{◌≡◌, ◌&&◌, length};
 ghost use Rattle.reading.specs.Universal.{utc_of};
 ghost use Rattle.reading.specs.Leap.{leap_window};
-ghost use Rattle.clock_string.specs.Reader.{whichever};
 ghost use Rattle.bridge.specs.Bridge.{quality_by, carried_by, bridge_answer, bridge_filled};
 
 use clock_string::read;
 use irig::Ieee1344;
-use reading::faults::refusal_of;
 use reading::leap::{change_window, leap_window};
 use reading::universal::utc_of;
-use reading::{Fault, Reading, Refusal, Written};
-use strings::Answer;
+use reading::{Fault, Reading, Refusal};
 
 // What becomes of a string's coasting mark in its frame: quality 15, whatever the string's own is, or nothing.
-#[derive(Clone, Copy)]
+#[derive(Clone, Copy, Debug, PartialEq, Eq)]
 pub enum Coasting {
     Worse,
     Dropped,
 }
 
 // A clock that coasts looks worse.
-pub fn bridge(base: u16, s: &[u8], out: &mut [u8]) -> Written
+pub fn bridge(base: u16, s: &[u8], out: &mut [u8]) -> Result<usize, Refusal>
     ensures value { result ≡ bridge_answer base s.now (length out.old) }
     ensures out_after { out.new ≡ bridge_filled Coasting.Worse base s.now out.old }
 {
     bridge_with(base, s, Coasting::Worse, out)
 }
 
-// The same with the way named. The room is looked at before the string.
-pub fn bridge_with(base: u16, s: &[u8], way: Coasting, out: &mut [u8]) -> Written
+// The same with the way named. The room is looked at before the string; an odd quarter is refused by the frame's writer.
+pub fn bridge_with(base: u16, s: &[u8], way: Coasting, out: &mut [u8]) -> Result<usize, Refusal>
     ensures value { result ≡ bridge_answer base s.now (length out.old) }
     ensures out_after { out.new ≡ bridge_filled way base s.now out.old }
 {
     if out.len() < Ieee1344::LENGTH {
-        return refuse(refusal_of(Fault::Length), out);
+        return Err(Fault::Length.into());
     }
-    let answer = whichever(read(base, s));
-    match answer {
-        Answer::Time(r, coasting) => Ieee1344::write(base, carried_by(way, coasting, r), out),
-        Answer::No(refusal) => refuse(refusal, out),
-    }
-}
-
-// The room's refusal and the string's: each says why, and leaves `out` as it was. An odd quarter is refused by the frame's writer.
-fn refuse(refusal: Refusal, out: &mut [u8]) -> Written
-    ensures value { result ≡ Written.No refusal }
-    ensures out_unchanged { out.new ≡ out.old }
-{
-    Written::No(refusal)
-}
-
-// Either string goes over alike.
-fn whichever(answer: clock_string::Answer) -> Answer
-    ensures { result ≡ whichever answer }
-{
-    match answer {
-        clock_string::Answer::Meinberg(r, coasting) => Answer::Time(r, coasting),
-        clock_string::Answer::Erlangen(r, coasting) => Answer::Time(r, coasting),
-        clock_string::Answer::No(refusal) => Answer::No(refusal),
-    }
+    let (r, coasting) = read(base, s)?.timed();
+    Ieee1344::write(base, carried_by(way, coasting, r), out)
 }
 
 // UTC is worked out only where a leap second is announced.
 fn leap_pending(r: Reading) -> bool
     ensures { result ≡ (r.leap && leap_window (utc_of r) r.second) }
 {
-    if r.leap {
-        return leap_window(utc_of(r), r.second);
-    }
-    false
+    r.leap && leap_window(utc_of(r), r.second)
 }
 
 // 15 is "failed", the worst that a frame can say of its clock.
+#[tactic(auto, unfolding(crate::specs::Bridge::quality_by))]
 fn quality_by(way: Coasting, coasting: bool, own: u8) -> u8
     ensures { result ≡ quality_by way coasting own }
 {
-    match way {
-        Coasting::Worse => {
-            if coasting {
-                return 15;
-            }
-            own
-        }
-        Coasting::Dropped => own,
+    match (way, coasting) {
+        (Coasting::Worse, true) => 15,
+        _ => own,
     }
 }
 
 // A string announces well ahead; a frame says that something is pending in the last minute alone. A quality stands in the mark's
 // place, and all else goes over as it is.
+#[tactic(auto, unfolding(crate::specs::Bridge::carried_by, crate::specs::Bridge::graded, crate::specs::Bridge::pending_of))]
 fn carried_by(way: Coasting, coasting: bool, r: Reading) -> Reading
     ensures { result ≡ carried_by way coasting r }
 {
-    let offset = r.offset;
     Reading {
-        year: r.year,
-        month: r.month,
-        day: r.day,
-        hour: r.hour,
-        minute: r.minute,
-        second: r.second,
-        offset,
-        summer: r.summer,
         leap: leap_pending(r),
         change: r.change & change_window(r.minute, r.second),
         quality: quality_by(way, coasting, r.quality),
+        ..r
     }
 }

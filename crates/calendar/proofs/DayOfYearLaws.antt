@@ -12,7 +12,7 @@ use Rattle.laws.proofs.Tested.{at, and_left, and_right}
 use Rattle.calendar.specs.declared.Date.{Date}
 use Rattle.calendar.specs.declared.MonthDay.{MonthDay}
 use Rattle.calendar.specs.Calendar.{leap_year, days_in, days_before, year_length, day_of_year, month_up_to, in_year, month_day}
-use Rattle.calendar.proofs.MonthLaws.{before_first, month_ends_lem, year_least}
+use Rattle.calendar.proofs.MonthLaws.{before_first, month_ends_lem, year_least, month_short}
 use Rattle.calendar.proofs.DateLaws.{Real, number_is, same_number}
 
 pub no_such_day_lem : (l : Bool) (k : ℕ) → in_year l k ≡ false → record { month = 0; day = 0 } ≡ month_day l k
@@ -105,6 +105,9 @@ on_day_lem l k e =
 pub in_month : (l : Bool) (k m : ℕ) → in_year l k ≡ true → m ≡ month_up_to l 12 k → OnDay l k (record { month = m; day = k - days_before l m })
 in_month l k m e p = subst (OnDay l k) (sym (is_month_day l k m e p)) (on_day_lem l k e)
 
+pub month_begun : (l : Bool) (k m : ℕ) → in_year l k ≡ true → m ≡ month_up_to l 12 k → days_before l m ≤ k
+month_begun l k m e p = let d = (in_month l k m e p).is in omega arith
+
 pub year_has : (t : Date) → Real t → in_year (leap_year t.year) (day_of_year t) ≡ true
 unfolding in_year day_of_year
 year_has t p =
@@ -124,3 +127,7 @@ month_day_of t p = let e = same_number u t (record { one = o.one; last = o.last 
 
     u : Date
     u = record { year = t.year; month = (month_day (leap_year t.year) (day_of_year t)).month; day = (month_day (leap_year t.year) (day_of_year t)).day }
+
+-- ---- what `month_day` rests on
+
+pub ruleset day_in_months = (in_january, is_month_day, in_month, month_begun, month_short)

@@ -3,5 +3,4 @@ pub mod YearLaws
 pub mod DateLaws
 pub mod WeekdayLaws
 pub mod DayOfYearLaws
-pub mod TableLaws
 pub mod Unique

@@ -1,16 +1,18 @@
 -- The months of a year: how the days before them add up, and which month and day are in the calendar.
-use mathlib.Core.Bool.{Bool, true, false, cond}
+use mathlib.Core.Bool.{Bool, true, false, cond, ◌||◌}
 use mathlib.Core.List.{[], ◌∷◌}
 use mathlib.Core.Path.{◌≡◌, refl, ap, subst, ◌∙◌}
-use Prim.Native.Nat.{ℕ, zero, suc, ◌+◌, ◌-◌, ◌*◌, ◌/◌, ◌≤◌, ◌<◌}
+use Prim.Native.Nat.{ℕ, zero, suc, ◌+◌, ◌-◌, ◌*◌, ◌/◌, ◌%◌, ◌≤◌, ◌<◌}
 use native.Mathlib.Nat.{not-suc-le-zero}
 use native.Mathlib.Decide.{ℕ_discrete, dec_lt}
 use native.Mathlib.Omega.{arith}
-use lib.Dec.{T, eqb, eqb→eq, leb, leb→le, le→leb}
+use lib.Dec.{T, eqb, eqb→eq, leb, leb→le, le→leb, ltb}
+use borrow.Author.Tests.{ne_eqb, le-ltb}
+use mir.Val.{bool_byte}
 use lib.ListN.{get_or-eq_default}
 use Rattle.laws.specs.Tests.{below}
 use Rattle.laws.proofs.Tested.{at}
-use Rattle.laws.proofs.Bools.{where_so, then}
+use Rattle.laws.proofs.Bools.{where_so, then, where_not, otherwise}
 use Rattle.calendar.specs.Calendar.{days_in, days_before, year_length}
 
 -- ---- the days before a month
@@ -89,6 +91,36 @@ month_short l m = go (dec_lt m 13)
     go (yes p) = leb→le (days_in l m) 31 (at (λ k. leb (days_in l k) 31) 13 (all l) m p)
     go (no q) = omega (arith, past_december l m (omega arith))
 
+-- ---- the days of a month, by a formula
+
+pub no_month : (l : Bool) (m : ℕ) → m < 1 → days_in l m ≡ 0
+unfolding days_in
+no_month l zero h = refl
+no_month l (suc m) h = omega arith
+
+pub leap_february : (l : Bool) (m : ℕ) → m ≡ 2 → l ≡ true → days_in l m ≡ 29
+unfolding days_in
+leap_february l m e f = rw (e, f)
+
+pub common_february : (l : Bool) (m : ℕ) → m ≡ 2 → l ≡ false → days_in l m ≡ 28
+unfolding days_in
+common_february l m e f = rw (e, f)
+
+-- it agrees in every month but February
+formula_right : Bool → ℕ → Bool
+formula_right l m = where_not (eqb m 2 || ltb m 1) (eqb (days_in l m) (30 + (m + m / 8) % 2))
+
+all_formula : (l : Bool) → T (below (formula_right l) 13)
+unfolding formula_right days_in
+all_formula true = tt
+all_formula false = tt
+
+pub other_months : (l : Bool) (m : ℕ) → 1 ≤ m → m ≤ 12 → (m ≡ 2 → ⊥) → days_in l m ≡ 30 + (m + m / 8) % 2
+unfolding formula_right
+other_months l m one h d =
+    let other : (eqb m 2 || ltb m 1) ≡ false = rw (ne_eqb m 2 d, le-ltb m 1 one) in
+    eqb→eq _ _ (otherwise (eqb m 2 || ltb m 1) (eqb (days_in l m) (30 + (m + m / 8) % 2)) (at (formula_right l) 13 (all_formula l) m (omega arith)) other)
+
 -- ---- the days before a month, by a formula
 
 pub before_early : (l : Bool) (m : ℕ) → m < 2 → 0 ≡ days_before l m
@@ -106,19 +138,19 @@ abbrev pub common : ℕ → ℕ
 common m = (153 * m - 162) / 5
 
 right : Bool → ℕ → Bool
-right l m = where_so (leb 3 m) (eqb (cond l (common m + 1) (common m)) (days_before l m))
+right l m = where_so (leb 3 m) (eqb (days_before l m) (common m + bool_byte l))
 
 all_right : (l : Bool) → T (below (right l) 13)
 unfolding right days_before days_in
 all_right true = tt
 all_right false = tt
 
-pub before_later : (l : Bool) (m : ℕ) → 3 ≤ m → m ≤ 12 → cond l (common m + 1) (common m) ≡ days_before l m
+pub before_later : (l : Bool) (m : ℕ) → 3 ≤ m → m ≤ 12 → days_before l m ≡ common m + bool_byte l
 unfolding right
-before_later l m a b = eqb→eq _ _ (then (leb 3 m) (eqb (cond l (common m + 1) (common m)) (days_before l m)) (at (right l) 13 (all_right l) m (omega arith)) (le→leb 3 m a))
+before_later l m a b = eqb→eq _ _ (then (leb 3 m) (eqb (days_before l m) (common m + bool_byte l)) (at (right l) 13 (all_right l) m (omega arith)) (le→leb 3 m a))
 
-pub before_leap : (l : Bool) (m : ℕ) → l ≡ true → 3 ≤ m → m ≤ 12 → common m + 1 ≡ days_before l m
-before_leap l m e a b = rw e (before_later true m a b)
+-- ---- what the two formulas' functions rest on
 
-pub before_common : (l : Bool) (m : ℕ) → l ≡ false → 3 ≤ m → m ≤ 12 → common m ≡ days_before l m
-before_common l m e a b = rw e (before_later false m a b)
+pub ruleset month_days = (no_month, leap_february, common_february, other_months, past_december)
+
+pub ruleset before_month = (before_early, before_february, before_later, before_past, year_least)

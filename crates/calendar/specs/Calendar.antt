@@ -37,6 +37,10 @@ day_number t = days_before_year t.year + day_of_year t
 unfoldable pub weekday_of : Date → ℕ
 weekday_of t = (day_number t + 4) % 7 + 1
 
+-- as weekday_of numbers them
+unfoldable pub is_weekday : ℕ → Bool
+is_weekday w = leb 1 w && leb w 7
+
 unfoldable pub is_month : ℕ → Bool
 is_month m = leb 1 m && leb m 12
 

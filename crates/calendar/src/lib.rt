@@ -6,13 +6,8 @@ pub mod days;
 pub mod months;
 pub mod neighbours;
 
-// The path by which crates above call `days::month_day`. The table that it is named for is gone.
-pub mod table {
-    pub use super::days::month_day;
-}
-
 // A date, or any three numbers in the place of one.
-#[derive(Clone, Copy)]
+#[derive(Clone, Copy, Debug, PartialEq, Eq, Hash, PartialOrd, Ord)]
 pub struct Date {
     pub year: u16,
     pub month: u8,
@@ -20,7 +15,7 @@ pub struct Date {
 }
 
 // A place within a year.
-#[derive(Clone, Copy)]
+#[derive(Clone, Copy, Debug, PartialEq, Eq, Hash, PartialOrd, Ord)]
 pub struct MonthDay {
     pub month: u8,
     pub day: u8,

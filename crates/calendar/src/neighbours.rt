@@ -1,73 +1,55 @@
 // The day after a date and the day before it.
-ghost use Rattle.std.specs.Prelude.{◌≡◌, ◌-◌};
-ghost use Rattle.calendar.specs.Calendar.{year_after, day_after, day_before};
+ghost use Rattle.std.specs.Prelude.{◌≡◌};
+ghost use Rattle.calendar.specs.Calendar.{day_after, day_before};
 
 use super::Date;
 use super::months::{days_in, is_leap};
 
-fn year_after(year: u16) -> u16
-    ensures { result ≡ year_after year }
-{
-    if year < 65535 {
-        return year + 1;
-    }
-    year
-}
-
-fn year_before(year: u16) -> u16
-    ensures { result ≡ year - 1 }
-{
-    if 0 < year {
-        return year - 1;
-    }
-    0
-}
-
+#[tactic(auto, unfolding(crate::specs::Calendar::day_after, crate::specs::Calendar::year_after))]
 pub fn day_after(t: Date) -> Date
     ensures { result ≡ day_after t }
 {
     if t.day < days_in(is_leap(t.year), t.month) {
-        return Date {
-            year: t.year,
-            month: t.month,
+        Date {
             day: t.day + 1,
-        };
-    }
-    if t.month < 12 {
-        return Date {
-            year: t.year,
+            ..t
+        }
+    } else if t.month < 12 {
+        Date {
             month: t.month + 1,
             day: 1,
-        };
-    }
-    Date {
-        year: year_after(t.year),
-        month: 1,
-        day: 1,
+            ..t
+        }
+    } else {
+        Date {
+            year: t.year.saturating_add(1),
+            month: 1,
+            day: 1,
+        }
     }
 }
 
+#[tactic(auto, unfolding(crate::specs::Calendar::day_before))]
 pub fn day_before(t: Date) -> Date
     ensures { result ≡ day_before t }
 {
     if 1 < t.day {
-        return Date {
-            year: t.year,
-            month: t.month,
+        Date {
             day: t.day - 1,
-        };
-    }
-    if 1 < t.month {
+            ..t
+        }
+    } else if 1 < t.month {
         let month = t.month - 1;
-        return Date {
-            year: t.year,
+        Date {
             month,
             day: days_in(is_leap(t.year), month),
-        };
-    }
-    Date {
-        year: year_before(t.year),
-        month: 12,
-        day: 31,
+            ..t
+        }
+    } else {
+        Date {
+            year: t.year.saturating_sub(1),
+            month: 12,
+            day: 31,
+        }
     }
 }

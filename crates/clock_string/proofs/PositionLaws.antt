@@ -1,4 +1,6 @@
 -- The position part: bytes 41..66 of an accepted Uni Erlangen string, and of no other string any.
+use Rattle.strings.specs.Checks.{Answer as Said}
+use Rattle.std.specs.Prelude.{Err, Ok}
 use mathlib.Core.Bool.{Bool, false}
 use mathlib.Core.List.{List, []}
 use mathlib.Core.Path.{◌≡◌, refl}
@@ -9,34 +11,32 @@ use Rattle.reading.specs.Years.{is_base}
 use Rattle.wire.specs.Layout.{printables}
 use Rattle.reading.specs.declared.Reading.{Reading}
 use Rattle.reading.specs.declared.Refusal.{Refusal}
-use Rattle.strings.specs.declared.Answer.{Answer as Said}
-use Rattle.strings.specs.declared.Answer.TheVariants.{Time, No as Refused}
 use Rattle.meinberg.specs.Layout.{text_length}
 use Rattle.meinberg.specs.Meaning.{read_meinberg}
 use Rattle.erlangen.specs.Layout.{position_at, position_size}
 use Rattle.erlangen.specs.Meaning.{read_erlangen, position_bytes}
 use Rattle.erlangen.proofs.Promises.{position_good as bytes_Good}
-use Rattle.clock_string.specs.declared.Answer.TheVariants.{Meinberg, Erlangen, No}
+use Rattle.clock_string.specs.declared.Told.TheVariants.{Meinberg, Erlangen}
 use Rattle.clock_string.specs.Reader.{as_meinberg, read_string}
 use Rattle.clock_string.specs.Position.{position_for, start_for, position_of}
 use Rattle.clock_string.proofs.ReadLaws.{at_32, Way, meinberg, erlangen, neither, way, is_erlangen, erlangen_told, other_base_lem}
 
 module _ (base : ℕ) (s : List ℕ) where
-  pub position_of_erlangen : (r : Reading) (coasting : Bool) → read_string base s ≡ Erlangen r coasting → position_of base s ≡ position_bytes s
+  pub position_of_erlangen : (r : Reading) (coasting : Bool) → read_string base s ≡ Ok (Erlangen r coasting) → position_of base s ≡ position_bytes s
   unfolding position_of
   position_of_erlangen r coasting e = rw e
 
-  pub position_of_meinberg : (r : Reading) (coasting : Bool) → read_string base s ≡ Meinberg r coasting → position_of base s ≡ []
+  pub position_of_meinberg : (r : Reading) (coasting : Bool) → read_string base s ≡ Ok (Meinberg r coasting) → position_of base s ≡ []
   unfolding position_of
   position_of_meinberg r coasting e = rw e
 
   -- "an empty part for a refused string"
-  pub position_of_refused : (x : Refusal) → read_string base s ≡ No x → position_of base s ≡ []
+  pub position_of_refused : (x : Refusal) → read_string base s ≡ Err x → position_of base s ≡ []
   unfolding position_of
   position_of_refused x e = rw e
 
   -- "The position bytes are printable", and there are 26, so that a writer takes them
-  pub position_good : (r : Reading) (coasting : Bool) → read_string base s ≡ Erlangen r coasting
+  pub position_good : (r : Reading) (coasting : Bool) → read_string base s ≡ Ok (Erlangen r coasting)
       → (length (position_of base s) ≡ position_size) × (printables (position_of base s) ≡ position_size)
   position_good r coasting e = rw (position_of_erlangen r coasting e) (bytes_Good base s r coasting (is_erlangen base s r coasting e).1)
 
@@ -52,11 +52,11 @@ module _ (base : ℕ) (s : List ℕ) where
   no_part_of_32 h = rw (at_32 base s h) (go (read_meinberg base s))
     where
       go : (a : Said) → ([] ≡ position_for (as_meinberg a) s) × (start_for (as_meinberg a) ≡ 0)
-      go (Time r coasting) = (refl, refl)
-      go (Refused x) = (refl, refl)
+      go (Ok (r, coasting)) = (refl, refl)
+      go (Err x) = (refl, refl)
 
   -- nor has any string one that is refused as Uni Erlangen's
-  pub no_part_of_refused : (x : Refusal) → read_erlangen base s ≡ Refused x → NoPart base s
+  pub no_part_of_refused : (x : Refusal) → read_erlangen base s ≡ Err x → NoPart base s
   unfolding position_of
   no_part_of_refused x e = go (way base s)
     where
@@ -66,7 +66,7 @@ module _ (base : ℕ) (s : List ℕ) where
       go (neither w) = rw w (refl, refl)
 
   -- one that is accepted as such has its bytes 41..66
-  pub part_of_accepted : (r : Reading) (coasting : Bool) → read_erlangen base s ≡ Time r coasting
+  pub part_of_accepted : (r : Reading) (coasting : Bool) → read_erlangen base s ≡ Ok (r, coasting)
       → (position_bytes s ≡ position_of base s) × (start_for (read_string base s) ≡ position_at)
   unfolding position_of
   part_of_accepted r coasting e = rw (erlangen_told base s r coasting e) (refl, refl)

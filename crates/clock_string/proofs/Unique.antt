@@ -8,6 +8,11 @@ use Rattle.clock_string.proofs.read.Kinds as read-kinds
 use Rattle.clock_string.proofs.read.Reads as read-reads
 use Rattle.clock_string.proofs.position_part.Kinds as position-part-kinds
 use Rattle.clock_string.proofs.position_part.Reads as position-part-reads
+use Rattle.clock_string.proofs.Told.timed.Kinds as timed-kinds
+use Rattle.clock_string.proofs.Told.timed.Reads as timed-reads
+
+pub timed_one : Coincide 0 timed-kinds.ps timed-kinds.r timed-reads.Post
+timed_one κs a x y e f p q = cc
 
 pub read_one : Coincide 1 read-kinds.ps read-kinds.r read-reads.Post
 read_one κs a x y e f p q = cc

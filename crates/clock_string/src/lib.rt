@@ -3,12 +3,11 @@
 #![tactic(auto)]
 
 ghost use Rattle.std.specs.Prelude.{◌≡◌, ◌+◌};
-ghost use Rattle.clock_string.specs.Reader.{as_meinberg, as_erlangen, is_length, read_string};
+ghost use Rattle.clock_string.specs.Reader.{timed, is_length, read_string};
 ghost use Rattle.clock_string.specs.Position.{position_of, start_for};
 
 use erlangen::Erlangen;
 use meinberg::Meinberg;
-use reading::faults::refusal_of;
 use reading::years::is_base;
 use reading::{Fault, Reading, Refusal};
 use wire::layout::byte_at;
@@ -16,29 +15,23 @@ use wire::layout::byte_at;
 // The first byte of either string.
 const STX: u8 = 2;
 
-// The time of a Meinberg string or of a Uni Erlangen string, each with its coasting mark, or why there is none.
-#[derive(Clone, Copy)]
-pub enum Answer {
+// The time that a Meinberg string or a Uni Erlangen string says, each with its coasting mark.
+#[derive(Clone, Copy, Debug, PartialEq, Eq)]
+pub enum Told {
     Meinberg(Reading, bool),
     Erlangen(Reading, bool),
-    No(Refusal),
 }
 
-fn as_meinberg(said: strings::Answer) -> Answer
-    ensures { result ≡ as_meinberg said }
-{
-    match said {
-        strings::Answer::Time(reading, coasting) => Answer::Meinberg(reading, coasting),
-        strings::Answer::No(refusal) => Answer::No(refusal),
-    }
-}
-
-fn as_erlangen(said: strings::Answer) -> Answer
-    ensures { result ≡ as_erlangen said }
-{
-    match said {
-        strings::Answer::Time(reading, coasting) => Answer::Erlangen(reading, coasting),
-        strings::Answer::No(refusal) => Answer::No(refusal),
+impl Told {
+    // The time and the coasting mark, whichever string says them.
+    pub fn timed(self) -> (Reading, bool)
+        ensures { result ≡ timed self }
+    {
+        match self {
+            Told::Meinberg(reading, coasting) | Told::Erlangen(reading, coasting) => {
+                (reading, coasting)
+            }
+        }
     }
 }
 
@@ -50,22 +43,24 @@ fn is_length(n: usize) -> bool
 
 // The length alone says which string it is; of no other length is a byte looked at. What both strings are refused for first, by
 // length, base and first byte, is asked here, where it is told without a reading at hand.
-pub fn read(base: u16, s: &[u8]) -> Answer
+pub fn read(base: u16, s: &[u8]) -> Result<Told, Refusal>
     ensures { result ≡ read_string base s.now }
 {
     if !is_length(s.len()) {
-        return Answer::No(refusal_of(Fault::Length));
+        return Err(Fault::Length.into());
     }
     if !is_base(base) {
-        return Answer::No(refusal_of(Fault::OtherBase));
+        return Err(Fault::OtherBase.into());
     }
     if byte_at(s, 0) != STX {
-        return Answer::No(refusal_of(Fault::Byte(0)));
+        return Err(Fault::Byte(0).into());
     }
     if s.len() == Meinberg::LENGTH {
-        return as_meinberg(meinberg::read::for_clock_string(base, s));
+        let (reading, coasting) = meinberg::read::for_clock_string(base, s)?;
+        return Ok(Told::Meinberg(reading, coasting));
     }
-    as_erlangen(erlangen::read::for_clock_string(base, s))
+    let (reading, coasting) = erlangen::read::for_clock_string(base, s)?;
+    Ok(Told::Erlangen(reading, coasting))
 }
 
 // The position bytes as a part of the caller's own string; empty for a Meinberg string, and for one that is refused, as every one
@@ -79,7 +74,7 @@ pub fn position_part(base: u16, s: &[u8]) -> &[u8]
         return &s[0..0];
     }
     match erlangen::read::for_clock_string(base, s) {
-        strings::Answer::Time(_, _) => &s[41..Erlangen::LAST],
-        strings::Answer::No(_) => &s[0..0],
+        Ok(_) => &s[41..Erlangen::LAST],
+        Err(_) => &s[0..0],
     }
 }

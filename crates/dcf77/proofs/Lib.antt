@@ -13,4 +13,3 @@ pub mod StandIns
 pub mod Worked
 pub mod Unique
 pub mod OwedLaws
-pub mod SaidLaws

@@ -1,12 +1,12 @@
 -- The code and place of each refusal: the first of the order of the codes whose condition holds, and its lowest place.
+use Rattle.reading.specs.Faults.{Verdict}
+use Rattle.std.specs.Prelude.{Err, Ok}
 use mathlib.Core.List.{List}
 use mathlib.Core.Path.{◌≡◌, refl}
 use Prim.Native.Nat.{ℕ}
 use lib.ListN.{get_or}
 use Rattle.reading.specs.declared.Reading.{Reading}
 use Rattle.reading.specs.declared.Refusal.{Refusal}
-use Rattle.reading.specs.declared.Verdict.{Verdict}
-use Rattle.reading.specs.declared.Verdict.TheVariants.{Good, Bad}
 use Rattle.reading.specs.Writing.{written_of}
 use Rattle.reading.specs.Refusals.{Objection, Owed}
 use Rattle.reading.specs.Objections.{check_objections, WrittenOwed}
@@ -20,8 +20,8 @@ use Rattle.dcf77.specs.Writer.{checked_with, carry_fault, room_fault, write_faul
 use Rattle.dcf77.specs.Objections.{said_objections, read_objections, write_objections, read_codes, write_codes, AnswerOwed}
 
 answer_owed : (l : List Objection) (codes : List ℕ) (v : Verdict) (r : Reading) (h : ℕ) → VerdictOwed l codes v → AnswerOwed l codes (answer_of v r h)
-answer_owed l codes Good r h p = p
-answer_owed l codes (Bad x) r h p = p
+answer_owed l codes (Ok done) r h p = p
+answer_owed l codes (Err x) r h p = p
 
 read_through : (base : ℕ) (s : List ℕ) → Through (read_objections base s) (read_fault base s)
 unfolding read_objections said_objections read_fault said_fault digit_fault parity_fault field_fault rule_fault

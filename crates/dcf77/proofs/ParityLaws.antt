@@ -8,7 +8,7 @@ use borrow.Author.Tests.{ne_eqb, eqb-false, leb-true}
 use lib.Dec.{eqb}
 use lib.ListN.{length, get_or, set, drop, length-append, length-set}
 use Rattle.pulses.specs.Row.{groups, row, fits_in, laid, ones_from, ones_of, sum_from}
-use Rattle.pulses.proofs.RowLaws.{length-row, enough, laid-set}
+use Rattle.pulses.proofs.RowLaws.{length-row, length-same, enough, laid-set}
 use Rattle.pulses.proofs.OnesLaws.{ones_of_part, ones_front, parity_of_sum}
 use Rattle.dcf77_table.specs.Table.{minute_parity, hour_parity, date_parity, minute_marks}
 use Rattle.dcf77_table.proofs.TableLaws.{long_enough}
@@ -87,6 +87,13 @@ unfit_same long v w out e = rw e
 pub fit_length : (long : Bool) (out : List ℕ) → fits_in (minute_marks long) out ≡ true → length (minute_marks long) ≤ length out
 unfolding fits_in
 fit_length long out e = leb-true (length (minute_marks long)) (length out) e
+
+-- and they are sixty at least, so that each parity mark has its place
+pub room_laid : (fits long : Bool) (v out marks : List ℕ) → fits ≡ fits_in (minute_marks long) out → fits ≡ true
+    → marks ≡ laid (minute_marks long) v out → (length (minute_marks long) ≤ length out) × (60 ≤ length marks)
+room_laid fits long v out marks e f m =
+    let room = fit_length long out (sym e ∙ f) in
+    (room, omega (arith, ap length m, length-same (minute_marks long) v out, room, long_enough long))
 
 pub mended : (long : Bool) (v out marks : List ℕ) (m h d : ℕ) → length v ≡ groups → length (minute_marks long) ≤ length out
     → marks ≡ laid (minute_marks long) v out → m ≡ evened minute_place minute_parity_place marks → h ≡ evened hour_place hour_parity_place marks

@@ -1,34 +1,27 @@
 -- What marks without a fault say, and what they are.
+use Rattle.std.specs.Prelude.{Err, Ok}
 use mathlib.Core.Bool.{Bool, true, false, cond, not, ◌||◌}
 use mathlib.Core.List.{List}
-use mathlib.Core.Path.{◌≡◌, refl, sym, ◌∙◌}
+use mathlib.Core.Path.{◌≡◌, refl, sym, ap, ◌∙◌}
 use Prim.Native.Nat.{ℕ, ◌<◌, ◌≤◌}
 use native.Mathlib.Omega.{arith}
-use native.Mathlib.Nat.{le_antisymm, lt_of_lt_of_le}
-use borrow.Author.Tests.{eq-eqb, ne_eqb, lt-ltb, le-ltb, ltb-false, eqb-true, not-false}
-use lib.Dec.{ltb, eqb, lit≤}
+use native.Mathlib.Nat.{le_antisymm}
+use borrow.Author.Tests.{ne_eqb, lt-ltb, le-ltb, ltb-false, eqb-true, not-false}
+use lib.Dec.{ltb, eqb}
 use lib.ListN.{length, get_or}
 use Rattle.reading.specs.declared.Reading.{Reading}
 use Rattle.reading.specs.declared.Refusal.{Refusal}
 use Rattle.reading.specs.declared.Fault.TheVariants.{Length, Byte, OtherBase}
-use Rattle.reading.specs.declared.Verdict.{Verdict}
-use Rattle.reading.specs.declared.Verdict.TheVariants.{Good, Bad}
-use Rattle.reading.specs.Faults.{number}
+use Rattle.reading.specs.Faults.{number, first, Verdict, no_fault}
 use Rattle.reading.specs.Years.{is_base}
 use Rattle.reading.proofs.CheckLaws.{first_good, clash}
-use Rattle.pulses.specs.declared.Scan.{Scan}
-use Rattle.pulses.specs.Row.{group_of, pulse_allowed, good_pulses, sums_of, scan_of}
-use Rattle.pulses.proofs.ScanLaws.{scan_good, scan-sums}
+use Rattle.pulses.specs.Row.{group_of, pulse_allowed, good_pulses, sums_of}
 use Rattle.pulses.proofs.EntryLaws.{fixed_allowed}
 use Rattle.pulses.proofs.GoodLaws.{good_in_row, first_bad}
 use Rattle.dcf77_table.specs.Table.{head, shared_marks, minute_marks}
-use Rattle.dcf77_table.specs.Values.{Proper}
 use Rattle.dcf77_table.proofs.TableLaws.{marks-length, long_enough}
-use Rattle.dcf77_table.proofs.ValueLaws.{few, said_proper, head_small}
-use Rattle.dcf77.specs.declared.Answer.{Answer}
-use Rattle.dcf77.specs.declared.Answer.TheVariants.{Time, No}
 use Rattle.dcf77.specs.Forms.{short_length, long_length, length_of}
-use Rattle.dcf77.specs.Reader.{is_long, table_for, says, reading_of, length_bad, said_fault, read_fault, answer_of, read_dcf77}
+use Rattle.dcf77.specs.Reader.{is_long, table_for, says, reading_of, length_bad, said_fault, read_fault, answer_of, read_dcf77, Answer}
 use Rattle.dcf77.proofs.SoundLaws.{Sound, sound, faultless}
 
 -- ---- the form that a length has
@@ -50,82 +43,44 @@ unfolding length_of
 form_marks true = sym (marks-length true)
 form_marks false = sym (marks-length false)
 
--- the form, where the length is asked
-pub is_long_lem : (n : ℕ) → n ≡ long_length → true ≡ is_long n
-unfolding is_long
-is_long_lem n e = sym (eq-eqb n long_length e)
-
-pub is_short : (n : ℕ) → (n ≡ long_length → ⊥) → false ≡ is_long n
-unfolding is_long
-is_short n d = sym (ne_eqb n long_length d)
-
 pub some_marks : (s : List ℕ) → length_bad (length s) ≡ false → 0 < length s
 some_marks s e = omega (arith, form_length (length s) e, form_marks (is_long (length s)), long_enough (is_long (length s)))
 
--- ---- what is found in the marks by their tags
-
-module _ (s : List ℕ) (long : Bool) (form : long ≡ is_long (length s)) where
-  pub good_found : (n : ℕ) → n ≡ good_pulses (minute_marks long) s → n ≡ good_pulses (table_for s) s
-  unfolding table_for
-  good_found n e = rw (← form) e
-
-  module _ (v : List ℕ) (e : v ≡ sums_of (minute_marks long) s) where
-    pub says_found : v ≡ says s
-    unfolding table_for says
-    says_found = rw (← form) e
-
-    pub proper_found : Proper v
-    proper_found = rw e (said_proper long s)
-
-    pub head_found : get_or v head 0 < 65536
-    head_found = rw e (lt_of_lt_of_le (head_small long s) (lit≤ tt))
+-- ---- the first mark
 
 begins : (long : Bool) (b : ℕ) → (b ≡ 0 → ⊥) → pulse_allowed (get_or (minute_marks long) 0 0) b ≡ false
 unfolding minute_marks shared_marks group_of
 begins long b d = fixed_allowed (get_or (minute_marks long) 0 0) b (omega arith) ∙ ne_eqb b 0 d
 
--- ---- what a pass over the marks has found
-
-module _ (s : List ℕ) (x : Scan) (e : x ≡ scan_of (minute_marks (eqb (length s) long_length)) s) where
-  pub found_good : x.good ≡ good_pulses (table_for s) s
-  unfolding table_for is_long
-  found_good = scan_good (table_for s) s (few (is_long (length s))) x e
-
-  pub found_all : length s ≤ x.good → length s ≤ good_pulses (table_for s) s
-  found_all h = rw found_good at h
-
-  pub found_sums : length s ≤ x.good → x.sums ≡ says s
-  unfolding table_for is_long says
-  found_sums h = scan-sums (table_for s) s (few (is_long (length s))) x e h
-
-  pub found_proper : Proper x.sums
-  unfolding scan_of
-  found_proper = rw e (said_proper (eqb (length s) long_length) _)
-
-  pub found_head : get_or x.sums head 0 < 65536
-  unfolding scan_of
-  found_head = rw e (lt_of_lt_of_le (head_small (eqb (length s) long_length) _) (lit≤ tt))
-
 -- ---- the reader, answer by answer
 
 module _ (base : ℕ) (s : List ℕ) where
-  pub wrong_length : (n : Refusal) → length_bad (length s) ≡ true → n ≡ number Length → No n ≡ read_dcf77 base s
+  pub wrong_length : (n : Refusal) → length_bad (length s) ≡ true → n ≡ number Length → Err n ≡ read_dcf77 base s
   unfolding read_dcf77 read_fault
   wrong_length n e p = rw (e, p)
 
-  pub other_base_lem : (n : Refusal) → length_bad (length s) ≡ false → is_base base ≡ false → n ≡ number OtherBase → No n ≡ read_dcf77 base s
+  pub other_base_lem : (n : Refusal) → length_bad (length s) ≡ false → is_base base ≡ false → n ≡ number OtherBase → Err n ≡ read_dcf77 base s
   unfolding read_dcf77 read_fault
   other_base_lem n e g p = rw (e, g, p)
 
   module _ (e : length_bad (length s) ≡ false) (g : is_base base ≡ true) where
-    pub wrong-mark : (m : ℕ) (n : Refusal) → m ≡ good_pulses (table_for s) s → m < length s → n ≡ number (Byte m) → No n ≡ read_dcf77 base s
+    pub wrong-mark : (m : ℕ) (n : Refusal) → m ≡ good_pulses (table_for s) s → m < length s → n ≡ number (Byte m) → Err n ≡ read_dcf77 base s
     unfolding read_dcf77 read_fault
     wrong-mark m n q k p =
         let l : good_pulses (table_for s) s < length s = omega arith in
         rw (e, g, lt-ltb (good_pulses (table_for s) s) (length s) l, p, q)
 
+    -- what is left to ask of the marks, by the table of their form
+    pub marks_left : (long : Bool) → long ≡ is_long (length s)
+        → read_dcf77 base s
+        ≡ (let good = good_pulses (minute_marks long) s in
+        let v = sums_of (minute_marks long) s in
+        answer_of (first (ltb good (length s)) (Byte good) (said_fault s v (reading_of base v))) (reading_of base v) (get_or v head 0))
+    unfolding read_dcf77 read_fault table_for says
+    marks_left long f = rw (e, g, f)
+
     -- the first of all: a minute begins with a 0
-    pub no_zero : (n : Refusal) → (get_or s 0 0 ≡ 0 → ⊥) → n ≡ number (Byte 0) → No n ≡ read_dcf77 base s
+    pub no_zero : (n : Refusal) → (get_or s 0 0 ≡ 0 → ⊥) → n ≡ number (Byte 0) → Err n ≡ read_dcf77 base s
     unfolding table_for is_long length_bad
     no_zero n d p =
         let f = form_length (length s) e ∙ form_marks (is_long (length s)) in
@@ -148,12 +103,13 @@ pub record Read (base : ℕ) (s : List ℕ) (r : Reading) (h : ℕ) : Type 0 whe
   pub head_is : get_or (says s) head 0 ≡ h
   pub sound_marks : Sound s (says s) r
 
-time_of : (f : Verdict) (q r : Reading) (i h : ℕ) → answer_of f q i ≡ Time r h → (f ≡ Good) × (q ≡ r) × (i ≡ h)
-time_of Good q r i h e = (refl, cc, cc)
-time_of (Bad x) q r i h e = let z : ◌≡◌ {A = ℕ} 0 1 = cc in clash z
+time_of : (f : Verdict) (q r : Reading) (i h : ℕ) → answer_of f q i ≡ Ok (r, h) → (f ≡ no_fault) × (q ≡ r) × (i ≡ h)
+time_of (Ok done) q r i h e =
+    let told : (q, i) ≡ (r, h) = cc in (refl, ap (λ (p : Reading × ℕ). p.0) told, ap (λ (p : Reading × ℕ). p.1) told)
+time_of (Err x) q r i h e = let z : ◌≡◌ {A = ℕ} 0 1 = cc in clash z
 
 module _ (base : ℕ) (s : List ℕ) (r : Reading) (h : ℕ) where
-  pub read_is : read_dcf77 base s ≡ Time r h → Read base s r h
+  pub read_is : read_dcf77 base s ≡ Ok (r, h) → Read base s r h
   unfolding read_dcf77 read_fault
   read_is e =
       let a = time_of (read_fault base s) (reading_of base (says s)) r (get_or (says s) head 0) h e in
@@ -169,6 +125,6 @@ module _ (base : ℕ) (s : List ℕ) (r : Reading) (h : ℕ) where
         sound_marks = rw a.1 at (sound s (says s) (reading_of base (says s)) c.1);
       }
 
-  pub is_read : length_bad (length s) ≡ false → Read base s r h → read_dcf77 base s ≡ Time r h
+  pub is_read : length_bad (length s) ≡ false → Read base s r h → read_dcf77 base s ≡ Ok (r, h)
   is_read e p =
-      sym (marks-told base s e p.base_good (says s) r Good (Time r h) (omega (arith, p.good)) refl (sym p.reading) (sym (faultless s (says s) r p.sound_marks)) (rw p.head_is))
+      sym (marks-told base s e p.base_good (says s) r no_fault (Ok (r, h)) (omega (arith, p.good)) refl (sym p.reading) (sym (faultless s (says s) r p.sound_marks)) (rw p.head_is))

@@ -1,5 +1,6 @@
 -- Reading and writing a minute of DCF77 are inverse, for any base year: the promises, over the definitions that the contracts of
 -- `Dcf77::read` and `Dcf77::write` cite.
+use Rattle.std.specs.Prelude.{Err, Ok}
 use mathlib.Core.Bool.{Bool, true, false}
 use mathlib.Core.List.{List, ◌++◌}
 use mathlib.Core.Logic.{◌⊎◌, inl, inr}
@@ -11,11 +12,7 @@ use lib.Seq.{take_at}
 use Rattle.reading.specs.declared.Reading.{Reading}
 use Rattle.reading.specs.declared.Refusal.{Refusal}
 use Rattle.reading.specs.declared.Fault.TheVariants.{OutsideYears}
-use Rattle.reading.specs.declared.Verdict.{Verdict}
-use Rattle.reading.specs.declared.Verdict.TheVariants.{Good}
-use Rattle.reading.specs.declared.Written.TheVariants.{Length, No}
-use Rattle.reading.specs.declared.Stamp.TheVariants.{Refused}
-use Rattle.reading.specs.Faults.{number}
+use Rattle.reading.specs.Faults.{number, Verdict, no_fault}
 use Rattle.reading.specs.Universal.{utc_of}
 use Rattle.reading.specs.Checks.{checked_of}
 use Rattle.reading.specs.Stamps.{has_stamp, stamp_number, stamp_is, stamp_of}
@@ -25,7 +22,6 @@ use Rattle.reading.proofs.StampLaws.{is_stamp, refused_by_12}
 use Rattle.pulses.specs.Row.{row}
 use Rattle.dcf77_table.specs.Table.{minute_marks}
 use Rattle.dcf77_table.proofs.ValueLaws.{said_proper, row_said}
-use Rattle.dcf77.specs.declared.Answer.TheVariants.{Time}
 use Rattle.dcf77.specs.Forms.{length_of, due_long}
 use Rattle.dcf77.specs.Reader.{is_long, table_for, says, reading_of, read_dcf77}
 use Rattle.dcf77.specs.Writer.{values_of, bytes_of, carry_fault, write_fault}
@@ -37,7 +33,7 @@ use Rattle.dcf77.proofs.ReadBack.{said_carried, values_there}
 
 -- ---- the marks of what is carried are read, and no others
 
-pub bytes_read : (base : ℕ) (r : Reading) (h : ℕ) → carry_fault base r h ≡ Good → read_dcf77 base (bytes_of r h) ≡ Time r h
+pub bytes_read : (base : ℕ) (r : Reading) (h : ℕ) → carry_fault base r h ≡ no_fault → read_dcf77 base (bytes_of r h) ≡ Ok (r, h)
 bytes_read base r h e = carried_reads base r h (carried base r h e)
 
 module _ (base : ℕ) (s : List ℕ) (r : Reading) (h : ℕ) (p : Read base s r h) where
@@ -63,17 +59,17 @@ module _ (base : ℕ) (s : List ℕ) (r : Reading) (h : ℕ) (p : Read base s r 
   read_again : bytes_of r h ≡ s
   read_again = bytes_are r h ∙ rw (← p.sound_marks.fields.form, read_values) marks_again
 
-pub read_bytes : (base : ℕ) (s : List ℕ) (r : Reading) (h : ℕ) → read_dcf77 base s ≡ Time r h → (carry_fault base r h ≡ Good) × (bytes_of r h ≡ s)
+pub read_bytes : (base : ℕ) (s : List ℕ) (r : Reading) (h : ℕ) → read_dcf77 base s ≡ Ok (r, h) → (carry_fault base r h ≡ no_fault) × (bytes_of r h ≡ s)
 read_bytes base s r h e =
     let p = read_is base s r h e in
     (is_carried base r h (read_carried base s r h p), read_again base s r h p)
 
 -- the marks that are read are exactly those of the readings and heads that are carried
 pub exactly : (base : ℕ) (s : List ℕ) (r : Reading) (h : ℕ)
-    → (read_dcf77 base s ≡ Time r h → (carry_fault base r h ≡ Good) × (bytes_of r h ≡ s))
-    × ((carry_fault base r h ≡ Good) × (bytes_of r h ≡ s) → read_dcf77 base s ≡ Time r h)
+    → (read_dcf77 base s ≡ Ok (r, h) → (carry_fault base r h ≡ no_fault) × (bytes_of r h ≡ s))
+    × ((carry_fault base r h ≡ no_fault) × (bytes_of r h ≡ s) → read_dcf77 base s ≡ Ok (r, h))
 exactly base s r h =
-    (read_bytes base s r h, λ p. subst (λ (b : List ℕ). read_dcf77 base b ≡ Time r h) p.1 (bytes_read base r h p.0))
+    (read_bytes base s r h, λ p. subst (λ (b : List ℕ). read_dcf77 base b ≡ Ok (r, h)) p.1 (bytes_read base r h p.0))
 
 -- ---- over the contracts of the writer
 
@@ -82,8 +78,8 @@ module _ (base : ℕ) (r : Reading) (h : ℕ) (out : List ℕ) where
   verdict = write_fault base r h (length out)
 
   -- what is written, into whatever buffer, is read as the same reading and head
-  pub written_reads : (n : ℕ) → written_of verdict (length_of (due_long r)) ≡ Length n
-      → read_dcf77 base (take n (filled verdict (bytes_of r h) out)) ≡ Time r h
+  pub written_reads : (n : ℕ) → written_of verdict (length_of (due_long r)) ≡ Ok n
+      → read_dcf77 base (take n (filled verdict (bytes_of r h) out)) ≡ Ok (r, h)
   written_reads n e =
       let w = length_is verdict (length_of (due_long r)) n e in
       let front : take n (bytes_of r h ++ drop (length (bytes_of r h)) out) ≡ bytes_of r h =
@@ -91,8 +87,8 @@ module _ (base : ℕ) (r : Reading) (h : ℕ) (out : List ℕ) where
       rw (w.0, front) (bytes_read base r h (accepted base r h (length out) w.0).0)
 
   -- what is read is written again, byte for byte, into whatever buffer has the room, and the rest of it stays
-  pub read_writes : (s : List ℕ) → read_dcf77 base s ≡ Time r h → length s ≤ length out
-      → (written_of verdict (length_of (due_long r)) ≡ Length (length s)) × (filled verdict (bytes_of r h) out ≡ s ++ drop (length s) out)
+  pub read_writes : (s : List ℕ) → read_dcf77 base s ≡ Ok (r, h) → length s ≤ length out
+      → (written_of verdict (length_of (due_long r)) ≡ Ok (length s)) × (filled verdict (bytes_of r h) out ≡ s ++ drop (length s) out)
   read_writes s e k =
       let p = read_bytes base s r h e in
       let l : length_of (due_long r) ≡ length s = sym (length-bytes r h) ∙ ap length p.1 in
@@ -100,23 +96,23 @@ module _ (base : ℕ) (r : Reading) (h : ℕ) (out : List ℕ) where
       (rw (g, l), rw (g, p.1))
 
   -- a refusal leaves the buffer as it was
-  pub refused_untouched : (n : Refusal) → written_of verdict (length_of (due_long r)) ≡ No n → filled verdict (bytes_of r h) out ≡ out
+  pub refused_untouched : (n : Refusal) → written_of verdict (length_of (due_long r)) ≡ Err n → filled verdict (bytes_of r h) out ≡ out
   refused_untouched n e = untouched verdict (length_of (due_long r)) (bytes_of r h) out n e
 
 -- ---- what is read is a time, and so has a stamp where there are stamps
 
-pub accepted_checked : (base : ℕ) (s : List ℕ) (r : Reading) (h : ℕ) → read_dcf77 base s ≡ Time r h → checked_of base r ≡ Good
+pub accepted_checked : (base : ℕ) (s : List ℕ) (r : Reading) (h : ℕ) → read_dcf77 base s ≡ Ok (r, h) → checked_of base r ≡ no_fault
 accepted_checked base s r h e = (carried base r h (read_bytes base s r h e).0).checked
 
 -- stamping it is refused by 12 alone
-pub accepted_stamped : (base : ℕ) (s : List ℕ) (r : Reading) (h : ℕ) → read_dcf77 base s ≡ Time r h
-    → (stamp_of base r ≡ stamp_is (stamp_number (utc_of r) r.second)) ⊎ (stamp_of base r ≡ Refused (number OutsideYears))
+pub accepted_stamped : (base : ℕ) (s : List ℕ) (r : Reading) (h : ℕ) → read_dcf77 base s ≡ Ok (r, h)
+    → (stamp_of base r ≡ stamp_is (stamp_number (utc_of r) r.second)) ⊎ (stamp_of base r ≡ Err (number OutsideYears))
 accepted_stamped base s r h e = go (has_stamp (utc_of r).date.year) refl
   where
-    c : checked_of base r ≡ Good
+    c : checked_of base r ≡ no_fault
     c = accepted_checked base s r h e
 
     go : (b : Bool) → has_stamp (utc_of r).date.year ≡ b
-        → (stamp_of base r ≡ stamp_is (stamp_number (utc_of r) r.second)) ⊎ (stamp_of base r ≡ Refused (number OutsideYears))
+        → (stamp_of base r ≡ stamp_is (stamp_number (utc_of r) r.second)) ⊎ (stamp_of base r ≡ Err (number OutsideYears))
     go true k = inl (is_stamp base r (stamp_number (utc_of r) r.second) (record { checked = c; year = k; value = refl }))
     go false k = inr (refused_by_12 base r c k)

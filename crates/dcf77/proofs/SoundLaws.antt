@@ -1,4 +1,6 @@
 -- What marks without a fault say: each check's fact, and back.
+use Rattle.reading.specs.Faults.{no_fault}
+use Rattle.std.specs.Prelude.{Err}
 use mathlib.Core.Bool.{Bool, true, false, not, beq, ◌||◌}
 use mathlib.Core.List.{List}
 use mathlib.Core.Path.{◌≡◌, refl}
@@ -12,7 +14,6 @@ use Rattle.calendar.specs.Calendar.{weekday_of, is_date}
 use Rattle.calendar.proofs.WeekdayLaws.{weekday_range}
 use Rattle.reading.specs.declared.Reading.{Reading}
 use Rattle.reading.specs.declared.Fault.TheVariants.{LeapSecond}
-use Rattle.reading.specs.declared.Verdict.TheVariants.{Good, Bad}
 use Rattle.reading.specs.Universal.{date_of}
 use Rattle.reading.specs.Checks.{hour_bad, minute_bad, day_bad, month_bad, weekday_wrong}
 use Rattle.reading.proofs.CheckLaws.{first_good, date_there, date_parts, weekday_there, weekday_fits}
@@ -49,7 +50,7 @@ pub record Fields (r : Reading) (w z : ℕ) (long : Bool) : Type 0 where
 
 -- ---- code 3
 
-digits_good : (v : List ℕ) → digit_fault v ≡ Good → Digits v
+digits_good : (v : List ℕ) → digit_fault v ≡ no_fault → Digits v
 unfolding digit_fault
 digits_good v e =
     let a = first_good (over_nine v minutes) _ _ e in
@@ -67,7 +68,7 @@ digits_good v e =
       decade = ltb-false 9 (get_or v tens_of_years 0) g.1;
     }
 
-good_digits : (v : List ℕ) → Digits v → digit_fault v ≡ Good
+good_digits : (v : List ℕ) → Digits v → digit_fault v ≡ no_fault
 unfolding digit_fault
 good_digits v p =
     rw (
@@ -81,7 +82,7 @@ good_digits v p =
 
 -- ---- code 4
 
-evens_good : (s : List ℕ) → parity_fault s ≡ Good → Evens s
+evens_good : (s : List ℕ) → parity_fault s ≡ no_fault → Evens s
 unfolding parity_fault
 evens_good s e =
     let a = first_good (odd minute_place minute_parity_place s) _ _ e in
@@ -89,14 +90,14 @@ evens_good s e =
     let c = first_good (odd day_place date_parity_place s) _ _ b.1 in
     record { minute = a.0; hour = b.0; date = c.0 }
 
-good_evens : (s : List ℕ) → Evens s → parity_fault s ≡ Good
+good_evens : (s : List ℕ) → Evens s → parity_fault s ≡ no_fault
 unfolding parity_fault
 good_evens s p = rw (p.minute, p.hour, p.date)
 
 -- ---- codes 15, 16, 6, 8 and 9
 
 module _ (r : Reading) (w z : ℕ) (long : Bool) where
-  fields_good : field_fault r w ≡ Good → rule_fault r w z long ≡ Good → Fields r w z long
+  fields_good : field_fault r w ≡ no_fault → rule_fault r w z long ≡ no_fault → Fields r w z long
   unfolding field_fault rule_fault
   fields_good e q =
       let a = first_good (minute_bad r.minute) _ _ e in
@@ -120,14 +121,14 @@ module _ (r : Reading) (w z : ℕ) (long : Bool) where
   beq_self true = refl
   beq_self false = refl
 
-  good_fields : Fields r w z long → field_fault r w ≡ Good
+  good_fields : Fields r w z long → field_fault r w ≡ no_fault
   unfolding field_fault
   good_fields p =
       let d = date_parts r p.date in
       let week = weekday_range (date_of r) in
       rw (le-ltb 59 r.minute p.minute, le-ltb 23 r.hour p.hour, d.1, ne_eqb w 0 (λ q. omega (arith, p.week)), d.0)
 
-  good_rules : Fields r w z long → rule_fault r w z long ≡ Good
+  good_rules : Fields r w z long → rule_fault r w z long ≡ no_fault
   unfolding rule_fault
   good_rules p = rw (weekday_fits r w p.week, p.zone_good, p.form, beq_self (due_long r))
 
@@ -143,7 +144,7 @@ pub record Sound (s v : List ℕ) (r : Reading) : Type 0 where
   pub fields : Fields r (get_or v weekday 0) (get_or v zone 0) (is_long (length s))
 
 module _ (s v : List ℕ) (r : Reading) where
-  pub sound : said_fault s v r ≡ Good → Sound s v r
+  pub sound : said_fault s v r ≡ no_fault → Sound s v r
   unfolding said_fault
   sound e =
       let a = then_good (digit_fault v) _ e in
@@ -155,7 +156,7 @@ module _ (s v : List ℕ) (r : Reading) where
         fields = fields_good r (get_or v weekday 0) (get_or v zone 0) (is_long (length s)) c.0 c.1;
       }
 
-  pub faultless : Sound s v r → said_fault s v r ≡ Good
+  pub faultless : Sound s v r → said_fault s v r ≡ no_fault
   unfolding said_fault
   faultless p =
       rw (
@@ -167,7 +168,7 @@ module _ (s v : List ℕ) (r : Reading) where
 
   -- "DCF77 length against the leap rule": where nothing else is wrong, 9 at the last place
   pub length_against : Digits v → Evens s → Fields r (get_or v weekday 0) (get_or v zone 0) (due_long r) → is_long (length s) ≡ not (due_long r)
-      → said_fault s v r ≡ Bad (LeapSecond (last_of (not (due_long r))))
+      → said_fault s v r ≡ Err (LeapSecond (last_of (not (due_long r))))
   unfolding said_fault rule_fault
   length_against d e f other =
       rw (

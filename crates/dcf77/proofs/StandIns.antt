@@ -1,5 +1,6 @@
 -- Three stand-ins that the contracts rule out, for any base year: a reader that refuses everything, a reader with one time for
 -- all, and a writer that leaves the buffer as found.
+use Rattle.std.specs.Prelude.{Err, Ok}
 use mathlib.Core.Bool.{true, false}
 use mathlib.Core.List.{List}
 use mathlib.Core.Path.{◌≡◌, refl}
@@ -8,10 +9,8 @@ use native.Mathlib.Omega.{arith}
 use lib.ListN.{length, take, replicate}
 use Rattle.calendar.specs.Calendar.{days_in, is_month, last_day, is_day, is_date}
 use Rattle.reading.specs.declared.Reading.{Reading}
-use Rattle.reading.specs.declared.Verdict.TheVariants.{Good}
 use Rattle.reading.specs.declared.Fault.TheVariants.{Byte}
-use Rattle.reading.specs.declared.Written.TheVariants.{Length}
-use Rattle.reading.specs.Faults.{number}
+use Rattle.reading.specs.Faults.{number, no_fault}
 use Rattle.reading.specs.Years.{year_of, is_base}
 use Rattle.reading.specs.Universal.{date_of}
 use Rattle.reading.specs.Writing.{written_of, filled}
@@ -19,7 +18,6 @@ use Rattle.reading.proofs.CheckLaws.{is_checked, clash}
 use Rattle.reading.proofs.YearLaws.{year_in_lem}
 use Rattle.pulses.specs.Row.{good_pulses, pulse_allowed, group_of}
 use Rattle.dcf77_table.specs.Table.{shared_marks, last_marks, minute_marks}
-use Rattle.dcf77.specs.declared.Answer.TheVariants.{Time, No}
 use Rattle.dcf77.specs.Zones.{offset_in}
 use Rattle.dcf77.specs.Forms.{length_of, due_long}
 use Rattle.dcf77.specs.Reader.{is_long, table_for, length_bad, read_fault, read_dcf77}
@@ -50,7 +48,7 @@ module _ (base : ℕ) (based : is_base base ≡ true) where
   unfolding is_date is_month is_day last_day days_in minute_of
   new_year_lem n = refl
 
-  pub good : (n : ℕ) → n ≤ 59 → carry_fault base (minute_of base n) 0 ≡ Good
+  pub good : (n : ℕ) → n ≤ 59 → carry_fault base (minute_of base n) 0 ≡ no_fault
   unfolding minute_of
   good n h =
       is_carried base (minute_of base n) 0
@@ -74,11 +72,11 @@ module _ (base : ℕ) (based : is_base base ≡ true) where
         offset = refl;
       })
 
-  timed : (n : ℕ) → n ≤ 59 → read_dcf77 base (bytes_of (minute_of base n) 0) ≡ Time (minute_of base n) 0
+  timed : (n : ℕ) → n ≤ 59 → read_dcf77 base (bytes_of (minute_of base n) 0) ≡ Ok ((minute_of base n), 0)
   timed n h = bytes_read base (minute_of base n) 0 (good n h)
 
   -- a reader that refuses everything
-  pub not-all-refused : ((s : List ℕ) (r : Reading) (h : ℕ) → read_dcf77 base s ≡ Time r h → ⊥) → ⊥
+  pub not-all-refused : ((s : List ℕ) (r : Reading) (h : ℕ) → read_dcf77 base s ≡ Ok (r, h) → ⊥) → ⊥
   not-all-refused f = f (bytes_of (minute_of base 0) 0) (minute_of base 0) 0 (timed 0 (omega arith))
 
   pub minute_is : (n : ℕ) → (minute_of base n).minute ≡ n
@@ -86,7 +84,7 @@ module _ (base : ℕ) (based : is_base base ≡ true) where
   minute_is n = refl
 
   -- one fixed time for all
-  pub not-one_time : (r : Reading) → ((s : List ℕ) (q : Reading) (h : ℕ) → read_dcf77 base s ≡ Time q h → q ≡ r) → ⊥
+  pub not-one_time : (r : Reading) → ((s : List ℕ) (q : Reading) (h : ℕ) → read_dcf77 base s ≡ Ok (q, h) → q ≡ r) → ⊥
   not-one_time r f =
       let a = f (bytes_of (minute_of base 0) 0) (minute_of base 0) 0 (timed 0 (omega arith)) in
       let b = f (bytes_of (minute_of base 1) 0) (minute_of base 1) 0 (timed 1 (omega arith)) in
@@ -94,7 +92,7 @@ module _ (base : ℕ) (based : is_base base ≡ true) where
       omega (arith, minute_is 0, minute_is 1)
 
   -- marks that are none
-  pub no_marks : read_dcf77 base (replicate 60 3) ≡ No (number (Byte 0))
+  pub no_marks : read_dcf77 base (replicate 60 3) ≡ Err (number (Byte 0))
   unfolding read_dcf77 read_fault length_bad is_long table_for good_pulses pulse_allowed group_of minute_marks shared_marks last_marks
   no_marks = rw based
 
@@ -108,6 +106,6 @@ module _ (base : ℕ) (based : is_base base ≡ true) where
       let r = minute_of base 0 in
       let out : List ℕ = replicate 60 3 in
       let g = is_accepted base r 0 60 (good 0 (omega arith)) (omega (arith, short 0)) in
-      let w : written_of (write_fault base r 0 (length out)) (length_of (due_long r)) ≡ Length 60 = rw (g, short 0) in
-      let a : read_dcf77 base (take 60 out) ≡ Time r 0 = rw (f r 0 out) at (written_reads base r 0 out 60 w) in
+      let w : written_of (write_fault base r 0 (length out)) (length_of (due_long r)) ≡ Ok 60 = rw (g, short 0) in
+      let a : read_dcf77 base (take 60 out) ≡ Ok (r, 0) = rw (f r 0 out) at (written_reads base r 0 out 60 w) in
       let z : ◌≡◌ {A = ℕ} 0 1 = cc (no_marks) in clash z

@@ -1,4 +1,6 @@
 -- Case 8 of the paper, the long minute before the leap second of 2016, and its neighbour an hour later, computed from the definitions.
+use Rattle.reading.specs.Faults.{no_fault}
+use Rattle.std.specs.Prelude.{Ok}
 use mathlib.Core.Bool.{Bool, true, false, cond}
 use mathlib.Core.List.{List, [], ◌∷◌}
 use mathlib.Core.Path.{◌≡◌, refl, subst}
@@ -8,7 +10,6 @@ use lib.IntN.{pos}
 use Rattle.laws.specs.Tests.{among}
 use Rattle.calendar.specs.Calendar.{leap_year, days_in, days_before, year_length, days_before_year, day_of_year, day_number, weekday_of, is_month, last_day, is_day, is_date, day_before}
 use Rattle.reading.specs.declared.Reading.{Reading}
-use Rattle.reading.specs.declared.Verdict.TheVariants.{Good}
 use Rattle.reading.specs.Years.{usual_base as base, in_hundred, is_base, first_year}
 use Rattle.reading.specs.Offset.{west, east, offset_good}
 use Rattle.reading.specs.Universal.{utc_minutes, on_day, utc_of}
@@ -16,7 +17,6 @@ use Rattle.reading.specs.Leap.{closes_with_leap, sixty_bad, after_leap}
 use Rattle.reading.specs.Checks.{time_bad, date_bad}
 use Rattle.pulses.specs.Row.{up_to, row, pulse_for, pulse_of, digit_of, group_of, weight_of, ones_from, lies_within, ones_of}
 use Rattle.dcf77_table.specs.Table.{shared_marks, last_marks, minute_marks}
-use Rattle.dcf77.specs.declared.Answer.TheVariants.{Time}
 use Rattle.dcf77.specs.Zones.{offset_in, zone_of}
 use Rattle.dcf77.specs.Forms.{due_long}
 use Rattle.dcf77.specs.Reader.{read_dcf77}
@@ -57,12 +57,12 @@ pub case_8_marks : bytes_of case_8 0 ≡ marks_with 60 59 ones_8
 unfolding case_8 ones_8 winter marks_with up_to bytes_of values_of with_parity plain_of evened ones_of lies_within ones_from row pulse_for pulse_of digit_of group_of weight_of minute_marks shared_marks last_marks due_long zone_of weekday_of day_number day_of_year days_before_year days_before days_in year_length leap_year
 case_8_marks = refl
 
-carried_8 : carry_fault base case_8 0 ≡ Good
+carried_8 : carry_fault base case_8 0 ≡ no_fault
 unfolding case_8 winter carry_fault checked_with not_carried head_bad time_bad date_bad in_hundred is_date is_month is_day last_day days_in leap_year offset_good offset_in west east sixty_bad first_year is_base
 carried_8 = refl
 
-pub case_8_read : read_dcf77 base (marks_with 60 59 ones_8) ≡ Time case_8 0
-case_8_read = subst (λ (s : List ℕ). read_dcf77 base s ≡ Time case_8 0) case_8_marks (bytes_read base case_8 0 carried_8)
+pub case_8_read : read_dcf77 base (marks_with 60 59 ones_8) ≡ Ok (case_8, 0)
+case_8_read = subst (λ (s : List ℕ). read_dcf77 base s ≡ Ok (case_8, 0)) case_8_marks (bytes_read base case_8 0 carried_8)
 
 -- ---- the minute before 2017-01-01 00:00 UTC, with the leap second announced
 
@@ -76,13 +76,13 @@ pub new_year_marks : bytes_of new_year_lem 0 ≡ marks_with 61 60 new_year_ones
 unfolding new_year_lem new_year_ones winter marks_with up_to bytes_of values_of with_parity plain_of evened ones_of lies_within ones_from row pulse_for pulse_of digit_of group_of weight_of minute_marks shared_marks last_marks due_long after_leap closes_with_leap day_before utc_of utc_minutes on_day west east zone_of weekday_of day_number day_of_year days_before_year days_before days_in year_length leap_year
 new_year_marks = refl
 
-carried_new_year : carry_fault base new_year_lem 0 ≡ Good
+carried_new_year : carry_fault base new_year_lem 0 ≡ no_fault
 unfolding new_year_lem winter carry_fault checked_with not_carried head_bad time_bad date_bad in_hundred is_date is_month is_day last_day days_in leap_year offset_good offset_in west east sixty_bad first_year is_base
 carried_new_year = refl
 
-pub new_year_read : read_dcf77 base (marks_with 61 60 new_year_ones) ≡ Time new_year_lem 0
+pub new_year_read : read_dcf77 base (marks_with 61 60 new_year_ones) ≡ Ok (new_year_lem, 0)
 new_year_read =
-    subst (λ (s : List ℕ). read_dcf77 base s ≡ Time new_year_lem 0) new_year_marks (bytes_read base new_year_lem 0 carried_new_year)
+    subst (λ (s : List ℕ). read_dcf77 base s ≡ Ok (new_year_lem, 0)) new_year_marks (bytes_read base new_year_lem 0 carried_new_year)
 
 -- an hour later the leap second is still announced, and the minute has 60 marks
 pub hour_later : due_long (winter 2017 1 1 2 0 true) ≡ false

@@ -1,10 +1,13 @@
 -- What a writer that refuses nothing has found, and what it leaves in the buffer.
-use mathlib.Core.Bool.{Bool, true, false, cond, not, ◌&&◌, ◌||◌}
+use Rattle.reading.specs.declared.Fault.TheVariants.{Length}
+use Rattle.reading.specs.Faults.{first, Verdict, no_fault}
+use Rattle.std.specs.Prelude.{Err, Ok}
+use mathlib.Core.Bool.{Bool, true, false, not, ◌&&◌, ◌||◌}
 use mathlib.Core.List.{List, ◌++◌}
 use mathlib.Core.Path.{◌≡◌, refl, sym, ◌∙◌}
-use Prim.Native.Nat.{ℕ, ◌≤◌}
+use Prim.Native.Nat.{ℕ, ◌<◌, ◌≤◌}
 use native.Mathlib.Omega.{arith}
-use borrow.Author.Tests.{ltb-false, le-ltb, eqb-true, eq-eqb, not-false}
+use borrow.Author.Tests.{ltb-true, ltb-false, lt-ltb, le-ltb, eqb-true, eq-eqb, not-false}
 use lib.Dec.{T, eqb, ltb, eqb_refl}
 use lib.IntN.{ℤ, pos, negsuc}
 use lib.ListN.{length, drop}
@@ -12,12 +15,9 @@ use Rattle.laws.proofs.Bools.{both, or_true, holds, is_true}
 use Rattle.laws.specs.Tests.{same}
 use Rattle.laws.proofs.Signed.{same_is}
 use Rattle.reading.specs.declared.Reading.{Reading}
-use Rattle.reading.specs.declared.Verdict.{Verdict}
-use Rattle.reading.specs.declared.Verdict.TheVariants.{Good, Bad}
 use Rattle.reading.specs.Years.{is_base}
 use Rattle.reading.specs.Checks.{time_bad, date_bad, quality_bad, sound_of, checked_of}
-use Rattle.reading.specs.declared.Written.{Written}
-use Rattle.reading.specs.Writing.{written_of, filled}
+use Rattle.reading.specs.Writing.{and_then, filled}
 use Rattle.reading.proofs.CheckLaws.{first_good, clash}
 use Rattle.reading.proofs.WrittenLaws.{then_good}
 use Rattle.pulses.specs.Row.{row, laid}
@@ -25,8 +25,8 @@ use Rattle.pulses.proofs.RowLaws.{length-row, enough}
 use Rattle.dcf77_table.specs.Table.{minute_marks}
 use Rattle.dcf77_table.proofs.TableLaws.{marks-length}
 use Rattle.dcf77.specs.Zones.{offset_in}
-use Rattle.dcf77.specs.Forms.{length_of, due_long}
-use Rattle.dcf77.specs.Writer.{values_of, bytes_of, head_bad, checked_with, not_carried, carry_fault, is_good, needed, room_fault, write_fault}
+use Rattle.dcf77.specs.Forms.{short_length, long_length, length_of, due_long}
+use Rattle.dcf77.specs.Writer.{plain_of, with_parity, values_of, bytes_of, head_bad, checked_with, not_carried, carry_fault, is_good, needed, room_fault, write_fault}
 
 -- ---- the marks and their length
 
@@ -45,7 +45,7 @@ bytes_are r h = refl
 -- ---- a reading and a head that the format carries
 
 pub record Carried (base : ℕ) (r : Reading) (h : ℕ) : Type 0 where
-  pub checked : checked_of base r ≡ Good
+  pub checked : checked_of base r ≡ no_fault
   pub head : h ≤ 32767
   pub second : r.second ≡ 0
   pub quality : r.quality ≡ 0
@@ -61,7 +61,7 @@ same_self (negsuc n) = eqb_refl n
 
 module _ (base : ℕ) (r : Reading) (h : ℕ) where
   -- the head is good and so are the shared checks
-  head_checked : (b : Bool) → head_bad h ≡ b → checked_with base r h ≡ Good → (b ≡ false) × (checked_of base r ≡ Good)
+  head_checked : (b : Bool) → head_bad h ≡ b → checked_with base r h ≡ no_fault → (b ≡ false) × (checked_of base r ≡ no_fault)
   unfolding checked_with checked_of sound_of
   head_checked false p e = (refl, rw (p, or_false (quality_bad r.quality)) at e)
   head_checked true p e =
@@ -84,7 +84,7 @@ module _ (base : ℕ) (r : Reading) (h : ℕ) where
   unfolding head_bad
   head_small e = ltb-false 32767 h e
 
-  pub carried : carry_fault base r h ≡ Good → Carried base r h
+  pub carried : carry_fault base r h ≡ no_fault → Carried base r h
   unfolding carry_fault
   carried e =
       let a = then_good (checked_with base r h) _ e in
@@ -92,7 +92,7 @@ module _ (base : ℕ) (r : Reading) (h : ℕ) where
       let c = carried_rest (first_good (not_carried r) _ _ a.1).0 in
       record { checked = b.1; head = head_small b.0; second = c.0; quality = c.1; offset = c.2 }
 
-  checked_so : Carried base r h → checked_with base r h ≡ Good
+  checked_so : Carried base r h → checked_with base r h ≡ no_fault
   unfolding checked_with checked_of sound_of head_bad
   checked_so p = rw (le-ltb 32767 h p.head, or_false (quality_bad r.quality)) p.checked
 
@@ -102,27 +102,46 @@ module _ (base : ℕ) (r : Reading) (h : ℕ) where
       let o : same r.offset.0 (offset_in r.summer) ≡ true = rw p.offset (is_true _ (same_self (offset_in r.summer))) in
       rw (eq-eqb r.second 0 p.second, eq-eqb r.quality 0 p.quality, o)
 
-  pub is_carried : Carried base r h → carry_fault base r h ≡ Good
+  pub is_carried : Carried base r h → carry_fault base r h ≡ no_fault
   unfolding carry_fault
   is_carried p = rw (checked_so p, carried_so p)
 
 -- ---- a writer that refuses nothing
 
 module _ (base : ℕ) (r : Reading) (h room : ℕ) where
-  pub accepted : write_fault base r h room ≡ Good → (carry_fault base r h ≡ Good) × (length_of (due_long r) ≤ room)
+  pub accepted : write_fault base r h room ≡ no_fault → (carry_fault base r h ≡ no_fault) × (length_of (due_long r) ≤ room)
   unfolding write_fault room_fault needed
   accepted e =
       let a = first_good (ltb room (length_of (is_good (carry_fault base r h) && due_long r))) _ _ e in
       (a.1, rw a.1 at (ltb-false room _ a.0))
 
-  pub is_accepted : carry_fault base r h ≡ Good → length_of (due_long r) ≤ room → write_fault base r h room ≡ Good
+  pub is_accepted : carry_fault base r h ≡ no_fault → length_of (due_long r) ≤ room → write_fault base r h room ≡ no_fault
   unfolding write_fault room_fault needed
   is_accepted e k = rw (e, le-ltb room (length_of (due_long r)) k)
 
-  -- the verdict as the code finds it
-  found : (v w : Verdict) (long : Bool) → v ≡ room_fault w long room → w ≡ carry_fault base r h → long ≡ due_long r → v ≡ write_fault base r h room
-  unfolding write_fault
-  found v w long p q l = rw (p, q, l)
+-- ---- the checks in the order in which the code makes them
+
+-- the room for a reading that is refused stands before its fault, and the room for a long minute behind it
+room_parted : (v : Verdict) (long : Bool) (room : ℕ)
+    → room_fault v long room ≡ first (ltb room short_length) Length (and_then v (first (ltb room (length_of long)) Length no_fault))
+unfolding room_fault needed length_of
+room_parted (Err x) long room = refl
+room_parted (Ok done) false room = twice (ltb room short_length)
+  where
+    twice : (b : Bool) → first b Length no_fault ≡ first b Length (first b Length no_fault)
+    twice true = refl
+    twice false = refl
+room_parted (Ok done) true room = by (ltb room short_length) refl
+  where
+    by : (b : Bool) → ltb room short_length ≡ b → first (ltb room long_length) Length no_fault ≡ first b Length (first (ltb room long_length) Length no_fault)
+    by true e = let few : room < long_length = omega (arith, ltb-true room short_length e) in rw (lt-ltb room long_length few)
+    by false e = refl
+
+pub in_steps : (base : ℕ) (r : Reading) (h room : ℕ)
+    → write_fault base r h room
+    ≡ first (ltb room short_length) Length (and_then (carry_fault base r h) (first (ltb room (length_of (due_long r))) Length no_fault))
+unfolding write_fault
+in_steps base r h room = room_parted (carry_fault base r h) (due_long r) room
 
 -- ---- what is left in the buffer
 
@@ -130,22 +149,14 @@ module _ (base : ℕ) (r : Reading) (h : ℕ) (out : List ℕ) where
   abbrev verdict : Verdict
   verdict = write_fault base r h (length out)
 
-  stored : verdict ≡ Good → laid (minute_marks (due_long r)) (values_of r h) out ≡ bytes_of r h ++ drop (length (bytes_of r h)) out
+  stored : verdict ≡ no_fault → laid (minute_marks (due_long r)) (values_of r h) out ≡ bytes_of r h ++ drop (length (bytes_of r h)) out
   stored e =
       let t = minute_marks (due_long r) in
       let k = (accepted base r h (length out) e).1 in
       (enough t (values_of r h) out (omega (arith, length_of_marks (due_long r)))).1 ∙ rw (bytes_are r h, length-row t (values_of r h))
 
-  -- the buffer, where the marks are laid only if nothing is refused
-  left : (v : Verdict) → v ≡ verdict → cond (is_good v) (laid (minute_marks (due_long r)) (values_of r h) out) out ≡ filled verdict (bytes_of r h) out
-  left Good p = stored (sym p) ∙ rw (← p)
-  left (Bad x) p = rw (← p)
-
-  -- the answer and the buffer, step by step as the code comes to them
-  pub finished : (long good : Bool) (w v : Verdict) (after : List ℕ) (n : ℕ) (a : Written) → long ≡ due_long r → w ≡ carry_fault base r h
-      → v ≡ room_fault w long (length out) → good ≡ is_good v → after ≡ cond good (laid (minute_marks long) (values_of r h) out) out
-      → n ≡ length_of long → a ≡ written_of v n
-      → (a ≡ written_of verdict (length_of (due_long r))) × (after ≡ filled verdict (bytes_of r h) out)
-  finished long good w v after n a l q p g s m e =
-      let f = found base r h (length out) v w long p q l in
-      (e ∙ rw (f, m, l), s ∙ rw (g, l) (left v f))
+  -- the marks that are laid where nothing is refused
+  pub left : verdict ≡ no_fault
+      → laid (minute_marks (due_long r)) (with_parity (plain_of r h) (row (minute_marks false) (plain_of r h))) out ≡ filled verdict (bytes_of r h) out
+  unfolding values_of
+  left e = stored e ∙ rw e

@@ -1,5 +1,6 @@
 -- What is carried is read back: the marks of a reading and a head say its values, and these name it. In the form that is not due they
 -- are refused.
+use Rattle.std.specs.Prelude.{Err, Ok}
 use mathlib.Core.Bool.{Bool, true, false, not}
 use mathlib.Core.List.{List}
 use mathlib.Core.Path.{◌≡◌, refl, sym, ap, ◌∙◌}
@@ -9,7 +10,6 @@ use lib.Dec.{eqb}
 use lib.ListN.{length, get_or}
 use Rattle.reading.specs.declared.Reading.{Reading}
 use Rattle.reading.specs.declared.Fault.TheVariants.{LeapSecond}
-use Rattle.reading.specs.declared.Verdict.TheVariants.{Bad}
 use Rattle.reading.specs.Faults.{number}
 use Rattle.reading.specs.Years.{year_of}
 use Rattle.reading.proofs.CheckLaws.{checked_is}
@@ -20,7 +20,6 @@ use Rattle.pulses.proofs.RowLaws.{length-row, row_good}
 use Rattle.dcf77_table.specs.Table.{head, weekday, zone, minute_marks}
 use Rattle.dcf77_table.proofs.ValueLaws.{said_row}
 use Rattle.dcf77_table.proofs.PartLaws.{Part, minute_part, hour_part, date_part}
-use Rattle.dcf77.specs.declared.Answer.TheVariants.{Time, No}
 use Rattle.dcf77.specs.Zones.{offset_in, zone_of, zone_bad}
 use Rattle.dcf77.specs.Forms.{length_of, last_of, due_long}
 use Rattle.dcf77.specs.Reader.{is_long, table_for, says, reading_of, length_bad, odd, read_dcf77}
@@ -136,7 +135,7 @@ module _ (base : ℕ) (r : Reading) (h : ℕ) (p : Carried base r h) where
     evens-back = record { minute = even-back minute_part refl; hour = even-back hour_part refl; date = even-back date_part refl }
 
   -- in the form that is due they are read back
-  due_reads : read_dcf77 base (marks (due_long r)) ≡ Time r h
+  due_reads : read_dcf77 base (marks (due_long r)) ≡ Ok (r, h)
   due_reads =
       let s = marks (due_long r) in
       let said = says_back (due_long r) in
@@ -150,18 +149,18 @@ module _ (base : ℕ) (r : Reading) (h : ℕ) (p : Carried base r h) where
         sound_marks = rw said (record { digits = digits_back; evens = evens-back (due_long r); fields = fields_back (is_long (length s)) (form-said (due_long r)) });
       })
 
-  pub carried_reads : read_dcf77 base (bytes_of r h) ≡ Time r h
+  pub carried_reads : read_dcf77 base (bytes_of r h) ≡ Ok (r, h)
   unfolding marks
   carried_reads = rw (bytes_are r h) due_reads
 
   -- and in the other they are refused by 9 at their last place
-  pub other_form : read_dcf77 base (row (minute_marks (not (due_long r))) (values_of r h)) ≡ No (number (LeapSecond (last_of (not (due_long r)))))
+  pub other_form : read_dcf77 base (row (minute_marks (not (due_long r))) (values_of r h)) ≡ Err (number (LeapSecond (last_of (not (due_long r)))))
   unfolding marks
   other_form =
       let long = not (due_long r) in
       let s = marks long in
       let e : length_bad (length s) ≡ false = rw (marks-length long) (length_fine long) in
       sym
-      (marks-told base s e (checked_is base r p.checked).base_good (values_of r h) r (Bad (LeapSecond (last_of long))) (No (number (LeapSecond (last_of long)))) (omega (arith, good-back long)) (sym (says_back long)) (sym reading_back)
+      (marks-told base s e (checked_is base r p.checked).base_good (values_of r h) r (Err (LeapSecond (last_of long))) (Err (number (LeapSecond (last_of long)))) (omega (arith, good-back long)) (sym (says_back long)) (sym reading_back)
       (sym (length_against s (values_of r h) r digits_back (evens-back long) (fields_back (due_long r) refl) (form-said long)))
       refl)

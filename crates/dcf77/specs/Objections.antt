@@ -1,7 +1,7 @@
 -- What can be wrong with a DCF77 minute, and with what is to be written as one, with code and place.
 -- Conditions and codes are those of 01's table, as amended by L5 and L12, a place is that of "the first byte of the lowest offending field".
 -- (Of an input of another length, code 2 may hold too: code 1 goes before it.)
-use Rattle.std.specs.Prelude.{true, not, ◌||◌, List, [], ◌∷◌, ◌++◌, ◌≡◌, ℕ, eqb, ltb, length, get_or}
+use Rattle.std.specs.Prelude.{true, not, ◌||◌, List, [], ◌∷◌, ◌++◌, ◌≡◌, ℕ, eqb, ltb, length, get_or, Err, Ok}
 use Rattle.std.specs.Bool.{beq}
 use Rattle.reading.specs.declared.Reading.{Reading}
 use Rattle.reading.specs.Offset.{offset_good}
@@ -12,11 +12,9 @@ use Rattle.reading.specs.Refusals.{Objection, objection, quiet, Owed}
 use Rattle.reading.specs.Objections.{base_objection, check_objections}
 use Rattle.pulses.specs.Row.{good_pulses, over_nine}
 use Rattle.dcf77_table.specs.Table.{minutes, hours, days, months, years, tens_of_years, weekday, zone}
-use Rattle.dcf77.specs.declared.Answer.{Answer}
-use Rattle.dcf77.specs.declared.Answer.TheVariants.{Time, No}
 use Rattle.dcf77.specs.Zones.{zone_bad}
 use Rattle.dcf77.specs.Forms.{last_of, due_long}
-use Rattle.dcf77.specs.Reader.{is_long, table_for, says, reading_of, length_bad, odd}
+use Rattle.dcf77.specs.Reader.{is_long, table_for, says, reading_of, length_bad, odd, Answer}
 use Rattle.dcf77.specs.Writer.{head_bad, not_carried, carry_fault, needed}
 
 -- the marks s, where their groups say the values v and with this base name the reading r; "for a DCF77 length, the last place"
@@ -64,5 +62,5 @@ write_codes = 1 ∷ 19 ∷ 15 ∷ 16 ∷ 17 ∷ 8 ∷ 9 ∷ 11 ∷ []
 
 -- what is promised of an answer: where a time is told nothing is objected, and a refusal is the one to give
 abbrev pub AnswerOwed : List Objection → List ℕ → Answer → Type 0
-AnswerOwed objections codes (Time r h) = quiet objections ≡ true
-AnswerOwed objections codes (No x) = Owed objections codes x
+AnswerOwed objections codes (Ok (r, h)) = quiet objections ≡ true
+AnswerOwed objections codes (Err x) = Owed objections codes x

@@ -1,11 +1,10 @@
 -- What the marks of a DCF77 minute say, what is wrong with them, and what the reader answers.
-use Rattle.std.specs.Prelude.{Bool, true, not, ◌||◌, List, ℕ, ◌+◌, ◌-◌, ◌*◌, ◌%◌, eqb, ltb, length, get_or}
+use Rattle.reading.specs.declared.Refusal.{Refusal}
+use Rattle.std.specs.Prelude.{Bool, true, not, ◌||◌, List, ℕ, ◌+◌, ◌-◌, ◌*◌, ◌%◌, eqb, ltb, length, get_or, Err, Ok, Result}
 use Rattle.std.specs.Bool.{beq}
 use Rattle.reading.specs.declared.Reading.{Reading}
-use Rattle.reading.specs.declared.Verdict.{Verdict}
-use Rattle.reading.specs.declared.Verdict.TheVariants.{Good, Bad}
 use Rattle.reading.specs.declared.Fault.TheVariants.{Length, Byte, Digit, Parity, Time, Date, Weekday, Offset, LeapSecond}
-use Rattle.reading.specs.Faults.{number, first}
+use Rattle.reading.specs.Faults.{number, first, Verdict, no_fault}
 use Rattle.reading.specs.Years.{year_of}
 use Rattle.reading.specs.Checks.{on_base, hour_bad, minute_bad, day_bad, month_bad, weekday_wrong}
 use Rattle.reading.specs.Writing.{and_then}
@@ -28,8 +27,6 @@ use Rattle.dcf77_table.specs.Table.{
   tens_of_years,
   minute_marks,
 }
-use Rattle.dcf77.specs.declared.Answer.{Answer}
-use Rattle.dcf77.specs.declared.Answer.TheVariants.{Time as Told, No}
 use Rattle.dcf77.specs.Zones.{offset_in, zone_of, zone_bad}
 use Rattle.dcf77.specs.Forms.{
   short_length,
@@ -100,7 +97,7 @@ digit_fault v =
     (first (over_nine v hours) (Digit hour_place)
     (first (over_nine v days) (Digit day_place)
     (first (over_nine v months) (Digit month_place)
-    (first (over_nine v years || over_nine v tens_of_years) (Digit year_place) Good))))
+    (first (over_nine v years || over_nine v tens_of_years) (Digit year_place) no_fault))))
 
 -- the ones of the marks from place a to place b are odd in number
 unfoldable pub odd : ℕ → ℕ → List ℕ → Bool
@@ -111,7 +108,7 @@ unfoldable pub parity_fault : List ℕ → Verdict
 parity_fault s =
     first (odd minute_place minute_parity_place s) (Parity minute_parity_place)
     (first (odd hour_place hour_parity_place s) (Parity hour_parity_place)
-    (first (odd day_place date_parity_place s) (Parity date_parity_place) Good))
+    (first (odd day_place date_parity_place s) (Parity date_parity_place) no_fault))
 
 -- codes 15 and 16; w is the weekday that the marks name
 unfoldable pub field_fault : Reading → ℕ → Verdict
@@ -120,14 +117,14 @@ field_fault r w =
     (first (hour_bad r.hour) (Time hour_place)
     (first (day_bad r) (Date day_place)
     (first (eqb w 0) (Date weekday_place)
-    (first (month_bad r) (Date month_place) Good))))
+    (first (month_bad r) (Date month_place) no_fault))))
 
 -- codes 6, 8 and 9; z is the zone that the marks name, long their form: "DCF77 length against the leap rule"
 unfoldable pub rule_fault : Reading → ℕ → ℕ → Bool → Verdict
 rule_fault r w z long =
     first (weekday_wrong r w) (Weekday weekday_place)
     (first (zone_bad z) (Offset zone_place)
-    (first (not (beq long (due_long r))) (LeapSecond (last_of long)) Good))
+    (first (not (beq long (due_long r))) (LeapSecond (last_of long)) no_fault))
 
 -- codes 3, 4, 15, 16, 6, 8 and 9 of the marks s, whose groups say v and name the reading r
 unfoldable pub said_fault : List ℕ → List ℕ → Reading → Verdict
@@ -143,10 +140,14 @@ read_fault base s =
     (on_base base
     (first (ltb (good_pulses (table_for s) s) (length s)) (Byte (good_pulses (table_for s) s)) (said_fault s (says s) (reading_of base (says s)))))
 
+-- what the reader answers: the time with its head, or why there is none
+abbrev pub Answer : Type 0
+Answer = Result (Reading × ℕ) Refusal
+
 -- the time with its head, or the refusal of the first fault
 abbrev pub answer_of : Verdict → Reading → ℕ → Answer
-answer_of Good r h = Told r h
-answer_of (Bad fault) r h = No (number fault)
+answer_of (Ok done) r h = Ok (r, h)
+answer_of (Err fault) r h = Err (number fault)
 
 -- what the reader answers of the marks s
 unfoldable pub read_dcf77 : ℕ → List ℕ → Answer

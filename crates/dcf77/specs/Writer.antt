@@ -1,12 +1,10 @@
 -- The marks of a reading and its head, and what the writer refuses.
-use Rattle.std.specs.Prelude.{Bool, true, false, not, ◌&&◌, ◌||◌, List, [], ◌∷◌, ℕ, ◌-◌, ◌/◌, ◌%◌, eqb, ltb, set}
+use Rattle.std.specs.Prelude.{Bool, true, false, not, ◌&&◌, ◌||◌, List, [], ◌∷◌, ℕ, ◌-◌, ◌/◌, ◌%◌, eqb, ltb, set, Err, Ok}
 use Rattle.laws.specs.Tests.{same}
 use Rattle.calendar.specs.Calendar.{weekday_of}
 use Rattle.reading.specs.declared.Reading.{Reading}
-use Rattle.reading.specs.declared.Verdict.{Verdict}
-use Rattle.reading.specs.declared.Verdict.TheVariants.{Good, Bad}
 use Rattle.reading.specs.declared.Fault.TheVariants.{Length, NotCarried}
-use Rattle.reading.specs.Faults.{first}
+use Rattle.reading.specs.Faults.{first, Verdict, no_fault}
 use Rattle.reading.specs.Offset.{offset_good}
 use Rattle.reading.specs.Universal.{date_of, utc_of}
 use Rattle.reading.specs.Leap.{sixty_bad}
@@ -68,12 +66,12 @@ not_carried r = not (eqb r.second 0 && (eqb r.quality 0 && same r.offset.0 (offs
 
 -- codes 19, 15, 16, 17, 8, 9 and 11
 unfoldable pub carry_fault : ℕ → Reading → ℕ → Verdict
-carry_fault base r h = and_then (checked_with base r h) (first (not_carried r) NotCarried Good)
+carry_fault base r h = and_then (checked_with base r h) (first (not_carried r) NotCarried no_fault)
 
 -- the verdict is good
 abbrev pub is_good : Verdict → Bool
-is_good Good = true
-is_good (Bad fault) = false
+is_good (Ok done) = true
+is_good (Err fault) = false
 
 -- "61 bytes where codes 2 to 11 let the reading through and the leap rule makes the minute long, and 60 otherwise"; among these are 15, 16
 -- and 17, which by L5 stand in 5's position, and L12's 19

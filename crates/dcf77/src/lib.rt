@@ -7,10 +7,8 @@ mod rules;
 mod writer;
 pub mod zones;
 
-use reading::{Reading, Refusal};
-
 // The format, in its form of 60 marks and in that of 61.
-#[derive(Clone, Copy)]
+#[derive(Clone, Copy, Debug, PartialEq, Eq)]
 pub struct Dcf77 {}
 
 impl Dcf77 {
@@ -24,11 +22,4 @@ impl Dcf77 {
 
     // The largest head: fifteen marks.
     pub const LAST_HEAD: u16 = 32767;
-}
-
-// What the reader answers: the time with its head, or why there is none.
-#[derive(Clone, Copy)]
-pub enum Answer {
-    Time(Reading, u16),
-    No(Refusal),
 }

@@ -8,20 +8,20 @@ const WINTER: i8 = 4;
 
 const SUMMER: i8 = 8;
 
+#[tactic(auto, unfolding(crate::specs::Zones::offset_in))]
 pub fn offset_in(summer: bool) -> LocalMinusUtc
     ensures { result ≡ record { 0 = offset_in summer } }
 {
     if summer {
-        return LocalMinusUtc(SUMMER);
+        LocalMinusUtc(SUMMER)
+    } else {
+        LocalMinusUtc(WINTER)
     }
-    LocalMinusUtc(WINTER)
 }
 
+#[tactic(auto, unfolding(crate::specs::Zones::zone_of))]
 pub(super) fn zone_of(summer: bool) -> u32
     ensures { result ≡ zone_of summer }
 {
-    if summer {
-        return 1;
-    }
-    2
+    if summer { 1 } else { 2 }
 }

@@ -4,7 +4,8 @@ pub mod StreamLaws
 pub mod SinceGap
 pub mod MinutesTold
 pub mod RunLaws
-pub mod StandIns
 pub mod Worked
-pub mod Unique
 pub mod OwedLaws
+pub mod FormatTypes
+pub mod StandIns
+pub mod Unique

@@ -1,4 +1,5 @@
 -- What is owed after any stream is the letter's: of the marks since the gap before, closing gap included, and nothing elsewhere.
+use Rattle.std.specs.Prelude.{None, Some}
 use mathlib.Core.Bool.{Bool, true, false, cond, not, ◌&&◌, ◌||◌, and-true, and-false}
 use mathlib.Core.List.{List, [], ◌∷◌, ◌++◌}
 use mathlib.Core.Path.{◌≡◌, refl, sym, ap, subst, ◌∙◌}
@@ -12,11 +13,9 @@ use Rattle.laws.proofs.Bools.{both}
 use Rattle.dcf77.specs.Reader.{read_dcf77}
 use Rattle.streams.specs.Stream.{last_of}
 use Rattle.streams.proofs.Window.{last_after}
-use Rattle.dcf77_stream.specs.declared.Said.{Said}
-use Rattle.dcf77_stream.specs.declared.Said.TheVariants.{Nothing}
-use Rattle.dcf77_stream.specs.Said.{marks_then_gap, between_gaps, said_of, outlined, owed}
+use Rattle.dcf77_stream.specs.Said.{marks_then_gap, between_gaps, outlined, owed, Said}
 use Rattle.dcf77_stream.specs.Ending.{gapless, all_marks, a_minute, Ending, unbegun, no_gap, first_gap, since_gap, owed_at}
-use Rattle.dcf77_stream.proofs.RingLaws.{unclosed}
+use Rattle.dcf77_stream.proofs.SymbolLaws.{unclosed, marks_closed}
 
 -- ---- every stream ends in one of the four ways
 
@@ -58,13 +57,6 @@ gap_inside [] s h = let some : length s ≡ 0 → ⊥ = λ e. omega arith in rw 
 gap_inside (x ∷ v) s h =
     let some : length (v ++ (2 ∷ s)) ≡ 0 → ⊥ = λ e. omega (arith, length-append v (2 ∷ s)) in
     rw (ne_eqb (length (v ++ (2 ∷ s))) 0 some, gap_inside v s h) (and-false (ltb x 2))
-
-marks_closed : (m : List ℕ) → marks_then_gap (m ++ (2 ∷ [])) ≡ all_marks m
-unfolding marks_then_gap all_marks
-marks_closed [] = refl
-marks_closed (x ∷ m) =
-    let some : length (m ++ (2 ∷ [])) ≡ 0 → ⊥ = λ e. omega (arith, length-append m (2 ∷ [])) in
-    rw (ne_eqb (length (m ++ (2 ∷ []))) 0 some, marks_closed m)
 
 -- ---- the last symbols of a stream, by how it ends
 
@@ -132,7 +124,7 @@ module _ (before m : List ℕ) (g : gapless m ≡ true) where
 -- ---- what is owed
 
 picks : (marks short long : Bool) (x y z : Said) → (long ≡ true → x ≡ z) → (short ≡ true → y ≡ z)
-    → cond (marks && long) x (cond (marks && short) y Nothing) ≡ cond (marks && (short || long)) z Nothing
+    → cond (marks && long) x (cond (marks && short) y None) ≡ cond (marks && (short || long)) z None
 picks false short long x y z f g = refl
 picks true true true x y z f g = f refl
 picks true true false x y z f g = g refl
@@ -141,21 +133,21 @@ picks true false false x y z f g = refl
 
 module _ (base : ℕ) where
   -- "when the pulse is a gap": nothing is said after any other symbol
-  pub nothing_unless_gap : (before : List ℕ) (x : ℕ) → (x ≡ 2 → ⊥) → owed base (before ++ (x ∷ [])) ≡ Nothing
+  pub nothing_unless_gap : (before : List ℕ) (x : ℕ) → (x ≡ 2 → ⊥) → owed base (before ++ (x ∷ [])) ≡ None
   unfolding owed
   nothing_unless_gap before x d = rw (open_ended 62 before x (omega arith) d, open_ended 61 before x (omega arith) d)
 
   -- nor after the first gap that comes
-  pub nothing_at_first_gap : (m : List ℕ) → gapless m ≡ true → owed base (m ++ (2 ∷ [])) ≡ Nothing
+  pub nothing_at_first_gap : (m : List ℕ) → gapless m ≡ true → owed base (m ++ (2 ∷ [])) ≡ None
   unfolding owed
   nothing_at_first_gap m g = rw (never_opened 62 m (omega arith) g, never_opened 61 m (omega arith) g)
 
   -- "of the marks since the gap before it, closing gap included"
   pub marks_since_gap : (before m : List ℕ) → gapless m ≡ true
-      → owed base (before ++ (2 ∷ (m ++ (2 ∷ [])))) ≡ cond (a_minute m) (said_of (read_dcf77 base (m ++ (2 ∷ [])))) Nothing
+      → owed base (before ++ (2 ∷ (m ++ (2 ∷ [])))) ≡ cond (a_minute m) (Some (read_dcf77 base (m ++ (2 ∷ [])))) None
   unfolding owed a_minute
   marks_since_gap before m g =
-      let read : List ℕ → Said = λ s. said_of (read_dcf77 base (drop 1 s)) in
+      let read : List ℕ → Said = λ s. Some (read_dcf77 base (drop 1 s)) in
       rw (outlined_since before m g 60, outlined_since before m g 59)
       (picks (all_marks m) (eqb (length m) 59) (eqb (length m) 60) _ _ _
       (λ e. ap read (exact before m g 60 (eqb-true (length m) 60 e)))

@@ -1,10 +1,8 @@
 -- How a stream of symbols ends, and what the letter owes it: "when the pulse is a gap, of the marks since the gap before it, closing
 -- gap included. It says nothing where these do not have the frame's outline, or too few have come."
-use Rattle.std.specs.Prelude.{Bool, true, cond, not, ◌&&◌, ◌||◌, List, [], ◌∷◌, ◌++◌, ◌≡◌, ℕ, eqb, ltb, length}
+use Rattle.std.specs.Prelude.{Bool, true, cond, not, ◌&&◌, ◌||◌, List, [], ◌∷◌, ◌++◌, ◌≡◌, ℕ, eqb, ltb, length, None, Some}
 use Rattle.dcf77.specs.Reader.{read_dcf77}
-use Rattle.dcf77_stream.specs.declared.Said.{Said}
-use Rattle.dcf77_stream.specs.declared.Said.TheVariants.{Nothing}
-use Rattle.dcf77_stream.specs.Said.{said_of}
+use Rattle.dcf77_stream.specs.Said.{Said}
 
 -- no gap is among the symbols
 unfoldable pub gapless : List ℕ → Bool
@@ -33,7 +31,7 @@ pub data Ending : List ℕ → Type 0 where
 
 -- what the letter owes each of them
 unfoldable pub owed_at : ℕ → {h : List ℕ} → Ending h → Said
-owed_at base unbegun = Nothing
-owed_at base (no_gap before x d) = Nothing
-owed_at base (first_gap m g) = Nothing
-owed_at base (since_gap before m g) = cond (a_minute m) (said_of (read_dcf77 base (m ++ (2 ∷ [])))) Nothing
+owed_at base unbegun = None
+owed_at base (no_gap before x d) = None
+owed_at base (first_gap m g) = None
+owed_at base (since_gap before m g) = cond (a_minute m) (Some (read_dcf77 base (m ++ (2 ∷ [])))) None

@@ -17,7 +17,7 @@ use Rattle.dcf77_table.specs.Table.{head, shared_marks, last_marks, minute_marks
 use Rattle.dcf77_table.specs.Tags.{upper_part, tags}
 use Rattle.dcf77_table.proofs.ValueLaws.{few}
 
-tags-length : (long : Bool) → length (tags long) ≡ length (minute_marks long)
+pub tags-length : (long : Bool) → length (tags long) ≡ length (minute_marks long)
 unfolding tags
 tags-length long = length-map (minute_marks long) (tag_of upper_part)
 
@@ -48,5 +48,9 @@ marks_sums long s v e =
     sums_joined upper_part head 256 (λ z. omega arith) (tag_part (tags long)) (tag_weight (tags long)) s n v (e ∙ tags-sums (tags long) s (own long) n refl) (omega arith) (omega arith)
     ∙ parts-sums (minute_marks long) _ _ (entries long) s n m (few long)
 
-pub part_small : (long : Bool) (s v : List ℕ) → v ≡ tag_sums (tags long) s → (k : ℕ) → k < groups → get_or v k 0 ≤ 255
+part_small : (long : Bool) (s v : List ℕ) → v ≡ tag_sums (tags long) s → (k : ℕ) → k < groups → get_or v k 0 ≤ 255
 part_small long s v e k h = rw e (sums_small (tags long) s k h)
+
+-- the head's own part and its upper one say no more than a byte
+pub two_small : (long : Bool) (s v : List ℕ) → v ≡ tag_sums (tags long) s → (get_or v head 0 ≤ 255) × (get_or v upper_part 0 ≤ 255)
+two_small long s v e = (part_small long s v e head (omega arith), part_small long s v e upper_part (omega arith))

@@ -1,15 +1,15 @@
-// The tables of the marks of a DCF77 minute, of its 60 and of its 61, and the row of marks that they drive.
+// The tables of the marks of a DCF77 minute, of its 60 and of its 61, and the row of marks that they drive. Each function names a table to
+// what `pulses` does by any; a trait over these and the table of a frame would have as many lines.
 #![tactic(auto)]
 
 mod tags;
 
 ghost use Rattle.std.specs.Prelude.{◌≡◌};
 ghost use Rattle.pulses.specs.Row.{good_pulses, sums_of, scan_of, fits_in, laid};
-ghost use Rattle.pulses.specs.Tags.{tag_sums};
 ghost use Rattle.dcf77_table.specs.Tags.{tags};
 ghost use Rattle.dcf77_table.specs.Table.{minute_marks};
 
-use pulses::Scan;
+use pulses::{Scan, UNIT, ZERO};
 use tags::{LONG_TAGS, TAGS};
 
 // The place of each group of data among the values.
@@ -51,41 +51,43 @@ pub mod groups {
     pub const DATE_PARITY: usize = 20;
 }
 
-// How many marks of a minute are good, up to the first that is not, and what each group of those says.
+// The table of a minute, or of a long one.
+#[tactic(auto, unfolding(crate::specs::Table::shared_marks, crate::specs::Table::last_marks, crate::specs::Table::minute_marks))]
+fn marks_of(long: bool) -> &'static [u32]
+    ensures { result.now ≡ minute_marks long }
+{
+    if long { &LONG_MARKS } else { &MARKS }
+}
+
+// The tags of its marks.
+fn tags_of(long: bool) -> &'static [u8]
+    ensures { result.now ≡ tags long }
+{
+    if long { &LONG_TAGS } else { &TAGS }
+}
+
+// How many marks of a minute are good, up to the first that is not, and what each group of those says. Readers go by `good` and `sums`: this
+// is kept for its contract and for `scanned_one`.
 pub fn scanned(long: bool, minute: &[u8]) -> Scan
     ensures { result ≡ scan_of (minute_marks long) minute.now }
 {
-    if long {
-        return pulses::scanned(&LONG_MARKS, minute);
-    }
-    pulses::scanned(&MARKS, minute)
+    pulses::scanned(marks_of(long), minute)
 }
 
 // How many marks of a minute are good, up to the first that is not.
+#[tactic(auto, using(crate::proofs::TagLaws::marks_good))]
 pub fn good(long: bool, minute: &[u8]) -> usize
     ensures { result ≡ good_pulses (minute_marks long) minute.now }
 {
-    if long {
-        return pulses::tags::good(&LONG_TAGS, minute);
-    }
-    pulses::tags::good(&TAGS, minute)
+    pulses::tags::good(tags_of(long), minute)
 }
 
-fn part_sums(long: bool, minute: &[u8]) -> [u32; 32]
-    ensures { result ≡ tag_sums (tags long) minute.now }
-{
-    if long {
-        return pulses::tags::sums(&LONG_TAGS, minute);
-    }
-    pulses::tags::sums(&TAGS, minute)
-}
-
-// What each group of the marks adds up to: the upper part of the head is joined to it.
+// What each group of the marks adds up to: the upper part of the head is joined to it, as in `irig_table::sums` and written out as there.
 pub fn sums(long: bool, minute: &[u8]) -> [u32; 32]
     ensures { result ≡ sums_of (minute_marks long) minute.now }
 {
-    let mut v = part_sums(long, minute);
-    v[groups::HEAD] = v[groups::HEAD] + 256 * v[UPPER];
+    let mut v = pulses::tags::sums(tags_of(long), minute);
+    v[groups::HEAD] += 256 * v[UPPER];
     v[UPPER] = 0;
     v
 }
@@ -97,19 +99,13 @@ pub fn lay(out: &mut [u8], long: bool, values: [u32; 32]) -> bool
 {
     let mut said = values;
     said[UPPER] = said[groups::HEAD] / 256;
-    if long {
-        return pulses::laying::lay(out, &LONG_TAGS, said);
-    }
-    pulses::laying::lay(out, &TAGS, said)
+    pulses::laying::lay(out, tags_of(long), said)
 }
 
 // The part that the marks of the head from 256 on have.
 const UPPER: usize = 21;
 
-const UNIT: u32 = 134217728;
-
-const ZERO: u32 = 0;
-
+// by `as`, since `from` is no constant
 const MISSING: u32 = 2 * UNIT;
 
 const ONE: u32 = UNIT;
@@ -223,7 +219,7 @@ const MARKS: [u32; 60] = [
     MISSING,
 ];
 
-// group and weight of each of the 61 marks
+// group and weight of each of the 61 marks, written out, since no constant array is worked out from another
 const LONG_MARKS: [u32; 61] = [
     // 0..15
     ZERO,

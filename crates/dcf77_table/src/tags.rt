@@ -1,5 +1,6 @@
 // The tags of a minute's marks, by which reader and writer go: the part of a mark and, 32 times over, which binary digit of what the part says
-// it is. That these are the tags of the paper's table is tested in proofs/TagLaws.antt and where they are lent.
+// it is. That these are the tags of the paper's table is tested in proofs/TagLaws.antt and where they are lent. The table stands in both
+// forms for speed: by bytes a minute is read and laid many marks at a time.
 pub(crate) const TAGS: [u8; 60] = [
     // 0..9
     0, 3, 35, 67, 99, 131, 163, 195, 227, 21,

@@ -1,63 +1,43 @@
 -- What the verdict on a string, or on what a writer is given, tells: its length, its bytes, and the reading.
+use Rattle.std.specs.Prelude.{Err}
 use mathlib.Core.Bool.{true, false, not}
 use mathlib.Core.List.{List}
-use mathlib.Core.Path.{◌≡◌, refl, ◌∙◌}
-use Prim.Native.Nat.{ℕ, ◌≤◌, ◌<◌}
+use mathlib.Core.Path.{◌≡◌, refl, sym}
+use Prim.Native.Nat.{ℕ, ◌≤◌}
 use native.Mathlib.Omega.{arith}
 use lib.Dec.{eqb, ltb}
 use lib.ListN.{length}
-use borrow.Author.Tests.{not-false, ltb-false, lt-ltb, le-ltb, eqb-true, eq-eqb, ne_eqb}
+use borrow.Author.Tests.{not-false, ltb-false, le-ltb, eqb-true, eq-eqb}
 use Rattle.laws.proofs.Bools.{neither}
 use Rattle.wire.specs.Layout.{good_places, printables}
 use Rattle.wire.proofs.LayoutLaws.{good_within, printables_within}
 use Rattle.reading.specs.declared.Reading.{Reading}
 use Rattle.reading.specs.declared.Fault.{Fault}
-use Rattle.reading.specs.declared.Fault.TheVariants.{Length, Byte, OtherBase}
-use Rattle.reading.specs.declared.Verdict.{Verdict}
-use Rattle.reading.specs.declared.Verdict.TheVariants.{Good, Bad}
-use Rattle.reading.specs.Faults.{number}
+use Rattle.reading.specs.declared.Fault.TheVariants.{OtherBase}
+use Rattle.reading.specs.Faults.{number, no_fault}
 use Rattle.reading.specs.Years.{is_base}
 use Rattle.reading.specs.Checks.{sound_of, checked_of}
 use Rattle.reading.proofs.CheckLaws.{first_good, base_and_sound, sound_checked}
 use Rattle.reading.proofs.WrittenLaws.{then_good}
-use Rattle.strings.specs.declared.Answer.TheVariants.{No}
-use Rattle.strings.specs.Checks.{fault_of, answer_of}
 use Rattle.strings.proofs.CheckLaws.{Sound, sound, faultless}
 use Rattle.erlangen.specs.Layout.{size, position_size, layout}
-use Rattle.erlangen.specs.Meaning.{places, weekday_said, coasting_said, offset_wrong, mark_wrong, reading_of, fault_in, read_erlangen}
+use Rattle.erlangen.specs.Meaning.{places, weekday_said, offset_wrong, mark_wrong, reading_of, fault_in, read_erlangen}
 use Rattle.erlangen.specs.Writing.{not_carried, length_bad, carried_of, write_fault}
 
 pub layout-length : length layout ≡ size
 unfolding layout
 layout-length = refl
 
--- ---- the faults of a string in their order, and the answer that goes with each
+-- ---- the fault that another base is, and the answer that goes with a fault
 
 module _ (base : ℕ) (s : List ℕ) where
-  pub wrong_length : (length s ≡ size → ⊥) → Bad Length ≡ fault_in base s
-  unfolding fault_in
-  wrong_length h = rw (ne_eqb (length s) size h)
-
-  pub other_base_lem : length s ≡ size → is_base base ≡ false → Bad OtherBase ≡ fault_in base s
+  pub other_base_lem : length s ≡ size → is_base base ≡ false → Err OtherBase ≡ fault_in base s
   unfolding fault_in
   other_base_lem l b = rw (eq-eqb (length s) size l, b)
 
-  pub wrong_byte : (good : ℕ) → length s ≡ size → is_base base ≡ true → good ≡ good_places layout s → good < size → Bad (Byte good) ≡ fault_in base s
-  unfolding fault_in
-  wrong_byte good l b e h = rw (eq-eqb (length s) size l, b, ← e, lt-ltb good size h)
-
-  pub said_last : (v : Verdict) (good : ℕ) → length s ≡ size → is_base base ≡ true → good ≡ good_places layout s → size ≤ good
-      → v ≡ fault_of (reading_of base s) (weekday_said s) (offset_wrong s) (mark_wrong s) places → v ≡ fault_in base s
-  unfolding fault_in
-  said_last v good l b e h f = f ∙ rw (eq-eqb (length s) size l, b, ← e, le-ltb good size h)
-
-  pub refused : (x : Fault) → Bad x ≡ fault_in base s → No (number x) ≡ read_erlangen base s
+  pub refused : (x : Fault) → Err x ≡ fault_in base s → Err (number x) ≡ read_erlangen base s
   unfolding read_erlangen
   refused x e = rw (← e)
-
-  pub answered : (v : Verdict) → v ≡ fault_in base s → answer_of v (reading_of base s) (coasting_said s) ≡ read_erlangen base s
-  unfolding read_erlangen
-  answered v e = rw e
 
 -- ---- a string
 
@@ -68,7 +48,7 @@ pub record Accepted (base : ℕ) (s : List ℕ) : Type 0 where
   pub sounds : Sound (reading_of base s) (weekday_said s) (offset_wrong s) (mark_wrong s)
 
 module _ (base : ℕ) (s : List ℕ) where
-  pub accepted_is : fault_in base s ≡ Good → Accepted base s
+  pub accepted_is : fault_in base s ≡ no_fault → Accepted base s
   unfolding fault_in
   accepted_is e =
       let a = first_good (not (eqb (length s) size)) _ _ e in
@@ -83,7 +63,7 @@ module _ (base : ℕ) (s : List ℕ) where
         sounds = sound _ _ _ _ places b.1;
       }
 
-  pub is_accepted : Accepted base s → fault_in base s ≡ Good
+  pub is_accepted : Accepted base s → fault_in base s ≡ no_fault
   unfolding fault_in
   is_accepted p =
       let g : size ≤ good_places layout s = omega (arith, p.bytes, p.size_is) in
@@ -95,11 +75,11 @@ pub record Carried (base : ℕ) (r : Reading) (position : List ℕ) (room : ℕ)
   pub roomy : size ≤ room
   pub size_is : length position ≡ position_size
   pub printing : printables position ≡ length position
-  pub checked : checked_of base r ≡ Good
+  pub checked : checked_of base r ≡ no_fault
   pub quality : not_carried r.quality ≡ false
 
 module _ (base : ℕ) (r : Reading) (position : List ℕ) (room : ℕ) where
-  pub carried_is : write_fault base r position room ≡ Good → Carried base r position room
+  pub carried_is : write_fault base r position room ≡ no_fault → Carried base r position room
   unfolding write_fault length_bad carried_of
   carried_is e =
       let a = first_good (length_bad position room) _ _ e in
@@ -118,7 +98,14 @@ module _ (base : ℕ) (r : Reading) (position : List ℕ) (room : ℕ) where
         quality = f.0;
       }
 
-  pub is_carried : Carried base r position room → write_fault base r position room ≡ Good
+  -- what laying the text asks for
+  pub given_size : no_fault ≡ write_fault base r position room → length position ≡ position_size
+  given_size e = (carried_is (sym e)).size_is
+
+  pub given_room : no_fault ≡ write_fault base r position room → size ≤ room
+  given_room e = (carried_is (sym e)).roomy
+
+  pub is_carried : Carried base r position room → write_fault base r position room ≡ no_fault
   unfolding write_fault length_bad carried_of
   is_carried p =
       let g : position_size ≤ printables position = omega (arith, p.size_is, p.printing) in
@@ -134,6 +121,6 @@ module _ (base : ℕ) (r : Reading) (position : List ℕ) (room : ℕ) where
 
 -- "any other base .. is 19, straight after 1": where room and position part have their lengths, whatever stands in the part, and whatever the reading
 pub other_base_refused : (base : ℕ) (r : Reading) (position : List ℕ) (room : ℕ) → length_bad position room ≡ false → is_base base ≡ false
-    → write_fault base r position room ≡ Bad OtherBase
+    → write_fault base r position room ≡ Err OtherBase
 unfolding write_fault
 other_base_refused base r position room e g = rw (e, g)

@@ -1,4 +1,5 @@
 -- The code and place of each refusal: the first of the order of the codes whose condition holds, and its lowest place.
+use Rattle.reading.specs.Faults.{no_fault}
 use mathlib.Core.Bool.{not}
 use mathlib.Core.List.{List, []}
 use mathlib.Core.Path.{◌≡◌, refl}
@@ -7,7 +8,6 @@ use lib.Dec.{ltb}
 use Rattle.reading.specs.declared.Reading.{Reading}
 use Rattle.reading.specs.declared.Refusal.{Refusal}
 use Rattle.reading.specs.declared.Fault.TheVariants.{Length, Byte, NotCarried, OtherBase}
-use Rattle.reading.specs.declared.Verdict.TheVariants.{Good}
 use Rattle.reading.specs.Years.{is_base}
 use Rattle.reading.specs.Writing.{written_of}
 use Rattle.reading.specs.Refusals.{Owed}
@@ -40,7 +40,7 @@ module _ (base : ℕ) (r : Reading) (position : List ℕ) (room : ℕ) where
       judged (length_bad position room) Length 1 0 _ _ refl refl
       (judged (not (is_base base)) OtherBase 19 0 _ _ refl refl
       (judged (ltb (printables position) position_size) (Byte (printables position)) 2 (printables position) _ _ refl refl
-      (one_then_other (sound_through base r) (judged (not_carried r.quality) NotCarried 11 0 [] Good refl refl none))))
+      (one_then_other (sound_through base r) (judged (not_carried r.quality) NotCarried 11 0 [] no_fault refl refl none))))
 
   pub write_owed : WrittenOwed (write_objections base r position room) write_codes (written_of (write_fault base r position room) size)
   unfolding write_objections sound_objections check_objections

@@ -1,4 +1,5 @@
 -- What reading and writing Uni Erlangen strings promise of each other, for any base year.
+use Rattle.std.specs.Prelude.{Err, Ok}
 use mathlib.Core.Bool.{Bool, true, false}
 use mathlib.Core.List.{List, ◌++◌}
 use mathlib.Core.Logic.{◌↔◌}
@@ -13,11 +14,7 @@ use Rattle.wire.proofs.LayoutLaws.{allowed_at, first_bad, first_bad_is, printabl
 use Rattle.reading.specs.declared.Reading.{Reading}
 use Rattle.reading.specs.declared.Refusal.{Refusal}
 use Rattle.reading.specs.declared.Fault.TheVariants.{Byte, OutsideYears}
-use Rattle.reading.specs.declared.Verdict.{Verdict}
-use Rattle.reading.specs.declared.Verdict.TheVariants.{Good, Bad}
-use Rattle.reading.specs.declared.Written.TheVariants.{Length, No}
-use Rattle.reading.specs.declared.Stamp.TheVariants.{Refused}
-use Rattle.reading.specs.Faults.{number}
+use Rattle.reading.specs.Faults.{number, Verdict, no_fault}
 use Rattle.reading.specs.Writing.{written_of, filled}
 use Rattle.reading.specs.Years.{is_base}
 use Rattle.reading.specs.Universal.{utc_of}
@@ -26,8 +23,7 @@ use Rattle.reading.specs.Stamps.{has_stamp, stamp_number, stamp_of}
 use Rattle.reading.proofs.CheckLaws.{clash}
 use Rattle.reading.proofs.StampLaws.{is_stamp, refused_by_12}
 use Rattle.reading.proofs.WrittenLaws.{length_is, untouched}
-use Rattle.strings.specs.declared.Answer.TheVariants.{Time, No as Refuses}
-use Rattle.strings.specs.Checks.{answer_of}
+use Rattle.strings.proofs.CheckLaws.{told_of}
 use Rattle.erlangen.specs.Layout.{size, position_size, layout}
 use Rattle.erlangen.specs.Meaning.{reading_of, coasting_said, fault_in, read_erlangen, position_bytes}
 use Rattle.erlangen.specs.Writing.{bytes_of, length_bad, write_fault}
@@ -38,24 +34,20 @@ use Rattle.erlangen.proofs.WriteLaws.{bytes_accepted, says_back}
 
 -- ---- what an answer tells
 
-told_is : (v : Verdict) (a r : Reading) (b c : Bool) → answer_of v a b ≡ Time r c → (v ≡ Good) × (a ≡ r) × (b ≡ c)
-told_is Good a r b c e = (refl, cc, cc)
-told_is (Bad x) a r b c e = let z : ◌≡◌ {A = ℕ} 0 1 = cc in clash z
-
 module _ (base : ℕ) (s : List ℕ) where
-  pub accepted_by : (r : Reading) (coasting : Bool) → read_erlangen base s ≡ Time r coasting → (fault_in base s ≡ Good) × (reading_of base s ≡ r) × (coasting_said s ≡ coasting)
+  pub accepted_by : (r : Reading) (coasting : Bool) → read_erlangen base s ≡ Ok (r, coasting) → (fault_in base s ≡ no_fault) × (reading_of base s ≡ r) × (coasting_said s ≡ coasting)
   unfolding read_erlangen
-  accepted_by r coasting e = told_is (fault_in base s) (reading_of base s) r (coasting_said s) coasting e
+  accepted_by r coasting e = told_of (fault_in base s) (reading_of base s) r (coasting_said s) coasting e
 
-  pub told_as : fault_in base s ≡ Good → read_erlangen base s ≡ Time (reading_of base s) (coasting_said s)
+  pub told_as : fault_in base s ≡ no_fault → read_erlangen base s ≡ Ok ((reading_of base s), (coasting_said s))
   unfolding read_erlangen
   told_as e = rw e
 
 -- ---- write, read
 
 module _ (base : ℕ) (r : Reading) (coasting : Bool) (position : List ℕ) where
-  pub bytes_read : (room : ℕ) → write_fault base r position room ≡ Good
-      → (read_erlangen base (bytes_of r coasting position) ≡ Time r coasting) × (position_bytes (bytes_of r coasting position) ≡ position)
+  pub bytes_read : (room : ℕ) → write_fault base r position room ≡ no_fault
+      → (read_erlangen base (bytes_of r coasting position) ≡ Ok (r, coasting)) × (position_bytes (bytes_of r coasting position) ≡ position)
   bytes_read room e =
       let p = carried_is base r position room e in
       let s = bytes_of r coasting position in
@@ -71,12 +63,12 @@ module _ (base : ℕ) (r : Reading) (coasting : Bool) (position : List ℕ) wher
     abbrev after : List ℕ
     after = filled verdict (bytes_of r coasting position) buffer
 
-    written_is : verdict ≡ Good → after ≡ bytes_of r coasting position ++ drop size buffer
+    written_is : verdict ≡ no_fault → after ≡ bytes_of r coasting position ++ drop size buffer
     written_is e = rw (e, bytes-length r coasting position (carried_is base r position (length buffer) e).size_is)
 
     -- "demand 2's reading back, from any start": what was written reads as what was given
-    pub written_reads : (n : ℕ) → written_of verdict size ≡ Length n
-        → (n ≡ size) × (read_erlangen base (take n after) ≡ Time r coasting) × (position_bytes (take n after) ≡ position)
+    pub written_reads : (n : ℕ) → written_of verdict size ≡ Ok n
+        → (n ≡ size) × (read_erlangen base (take n after) ≡ Ok (r, coasting)) × (position_bytes (take n after) ≡ position)
     written_reads n e =
         let a = length_is verdict size n e in
         let l = bytes-length r coasting position (carried_is base r position (length buffer) a.0).size_is in
@@ -86,19 +78,19 @@ module _ (base : ℕ) (r : Reading) (coasting : Bool) (position : List ℕ) wher
         (a.1, rw s b.0, rw s b.1)
 
     -- "writes the format's bytes from the start of the buffer and no others"
-    pub rest-untouched : (n : ℕ) → written_of verdict size ≡ Length n → drop n after ≡ drop n buffer
+    pub rest-untouched : (n : ℕ) → written_of verdict size ≡ Ok n → drop n after ≡ drop n buffer
     rest-untouched n e =
         let a = length_is verdict size n e in
         let l = bytes-length r coasting position (carried_is base r position (length buffer) a.0).size_is in
         rw (written_is a.0, a.1) (drop_at (bytes_of r coasting position) (drop size buffer) size l)
 
     -- "A refusal leaves all lent memory untouched"
-    pub refused_untouched : (x : Refusal) → written_of verdict size ≡ No x → after ≡ buffer
+    pub refused_untouched : (x : Refusal) → written_of verdict size ≡ Err x → after ≡ buffer
     refused_untouched = untouched verdict size (bytes_of r coasting position) buffer
 
 -- ---- read, write
 
-module _ (base : ℕ) (s : List ℕ) (r : Reading) (coasting : Bool) (told : read_erlangen base s ≡ Time r coasting) where
+module _ (base : ℕ) (s : List ℕ) (r : Reading) (coasting : Bool) (told : read_erlangen base s ≡ Ok (r, coasting)) where
   facts : Accepted base s
   facts = accepted_is base s (accepted_by base s r coasting told).0
 
@@ -107,25 +99,25 @@ module _ (base : ℕ) (s : List ℕ) (r : Reading) (coasting : Bool) (told : rea
   accepted-length = facts.size_is
 
   -- "what you read writes back to the same bytes", from a buffer with room
-  pub read_writes : (room : ℕ) → size ≤ room → (write_fault base r (position_bytes s) room ≡ Good) × (bytes_of r coasting (position_bytes s) ≡ s)
+  pub read_writes : (room : ℕ) → size ≤ room → (write_fault base r (position_bytes s) room ≡ no_fault) × (bytes_of r coasting (position_bytes s) ≡ s)
   read_writes room h =
       let a = accepted_by base s r coasting told in
       let c = is_carried base (reading_of base s) (position_bytes s) room (reading_carried base s facts room h) in
       (rw (← a.1) c, rw (← a.1, ← a.2) (bytes_back base s facts))
 
   pub read_rewrites : (buffer : List ℕ) → size ≤ length buffer
-      → (written_of (write_fault base r (position_bytes s) (length buffer)) size ≡ Length size)
+      → (written_of (write_fault base r (position_bytes s) (length buffer)) size ≡ Ok size)
       × (filled (write_fault base r (position_bytes s) (length buffer)) (bytes_of r coasting (position_bytes s)) buffer ≡ s ++ drop size buffer)
   read_rewrites buffer h =
       let w = read_writes (length buffer) h in
       rw (w.0, w.1, facts.size_is) (refl, refl)
 
   -- an accepted reading passes the checks of a reading
-  pub accepted_checked : checked_of base r ≡ Good
+  pub accepted_checked : checked_of base r ≡ no_fault
   accepted_checked = rw (← (accepted_by base s r coasting told).1) (reading_checked base s facts)
 
   -- so that stamping it "refuses it by 12 alone"
-  pub stamped_or_12 : (x : Refusal) → stamp_of base r ≡ Refused x → x ≡ number OutsideYears
+  pub stamped_or_12 : (x : Refusal) → stamp_of base r ≡ Err x → x ≡ number OutsideYears
   stamped_or_12 x e = go (has_stamp (utc_of r).date.year) refl
     where
       go : (b : Bool) → has_stamp (utc_of r).date.year ≡ b → x ≡ number OutsideYears
@@ -142,7 +134,7 @@ module _ (base : ℕ) (s : List ℕ) (r : Reading) (coasting : Bool) (told : rea
       (l, position_printable base s facts ∙ l)
 
 -- no two strings with one position part say the same time
-pub one_string : (base : ℕ) (s t : List ℕ) (r : Reading) (coasting : Bool) → read_erlangen base s ≡ Time r coasting → read_erlangen base t ≡ Time r coasting
+pub one_string : (base : ℕ) (s t : List ℕ) (r : Reading) (coasting : Bool) → read_erlangen base s ≡ Ok (r, coasting) → read_erlangen base t ≡ Ok (r, coasting)
     → position_bytes s ≡ position_bytes t → s ≡ t
 one_string base s t r coasting a b e =
     let v = read_writes base s r coasting a size (omega arith) in
@@ -153,36 +145,36 @@ one_string base s t r coasting a b e =
 
 -- accepted are just the strings that the writer writes for some reading, coasting mark and position part
 pub exactly : (base : ℕ) (s : List ℕ)
-    → ((r : Reading) × (coasting : Bool) × (read_erlangen base s ≡ Time r coasting))
-    ↔ ((r : Reading) × (coasting : Bool) × (position : List ℕ) × (write_fault base r position size ≡ Good) × (bytes_of r coasting position ≡ s))
+    → ((r : Reading) × (coasting : Bool) × (read_erlangen base s ≡ Ok (r, coasting)))
+    ↔ ((r : Reading) × (coasting : Bool) × (position : List ℕ) × (write_fault base r position size ≡ no_fault) × (bytes_of r coasting position ≡ s))
 exactly base s = (there, back)
   where
-    there : (r : Reading) × (coasting : Bool) × (read_erlangen base s ≡ Time r coasting)
-        → (r : Reading) × (coasting : Bool) × (position : List ℕ) × (write_fault base r position size ≡ Good) × (bytes_of r coasting position ≡ s)
+    there : (r : Reading) × (coasting : Bool) × (read_erlangen base s ≡ Ok (r, coasting))
+        → (r : Reading) × (coasting : Bool) × (position : List ℕ) × (write_fault base r position size ≡ no_fault) × (bytes_of r coasting position ≡ s)
     there a = let w = read_writes base s a.0 a.1 a.2 size (omega arith) in (a.0, a.1, position_bytes s, w.0, w.1)
 
-    back : (r : Reading) × (coasting : Bool) × (position : List ℕ) × (write_fault base r position size ≡ Good) × (bytes_of r coasting position ≡ s)
-        → (r : Reading) × (coasting : Bool) × (read_erlangen base s ≡ Time r coasting)
+    back : (r : Reading) × (coasting : Bool) × (position : List ℕ) × (write_fault base r position size ≡ no_fault) × (bytes_of r coasting position ≡ s)
+        → (r : Reading) × (coasting : Bool) × (read_erlangen base s ≡ Ok (r, coasting))
     back a = (a.0, a.1, rw (← a.4) (bytes_read base a.0 a.1 a.2 size a.3).0)
 
 -- ---- "for code 2 it is the lowest bad place"
 
 pub lowest_place : (base : ℕ) (s : List ℕ) (k : ℕ) → length s ≡ size → is_base base ≡ true → good_places layout s ≡ k → k < size
-    → (fault_in base s ≡ Bad (Byte k)) × (allowed_at layout s k ≡ false) × ((i : ℕ) → i < k → allowed_at layout s i ≡ true)
+    → (fault_in base s ≡ Err (Byte k)) × (allowed_at layout s k ≡ false) × ((i : ℕ) → i < k → allowed_at layout s i ≡ true)
 unfolding fault_in
 lowest_place base s k l d e h =
     let b = first_bad layout s k e (omega (arith, layout-length)) (omega arith) in
     (rw (eq-eqb (length s) size l, d, e, lt-ltb k size h), b.0, b.1)
 
 pub lowest_bad_byte : (base : ℕ) (s : List ℕ) → length s ≡ size → is_base base ≡ true → (k : ℕ) → k < size → allowed_at layout s k ≡ false
-    → ((i : ℕ) → i < k → allowed_at layout s i ≡ true) → read_erlangen base s ≡ Refuses (number (Byte k))
+    → ((i : ℕ) → i < k → allowed_at layout s i ≡ true) → read_erlangen base s ≡ Err (number (Byte k))
 lowest_bad_byte base s l d k h e f =
     let n = first_bad_is layout s k (omega (arith, layout-length)) (omega arith) e f in
     sym (refused base s (Byte k) (sym (lowest_place base s k l d n h).0))
 
 -- "printable (2, place within it)": the writer tells the lowest place of the position part whose byte is not
 pub lowest_unprintable : (base : ℕ) (r : Reading) (position : List ℕ) (room k : ℕ) → size ≤ room → is_base base ≡ true → length position ≡ position_size → k < position_size
-    → printable_at position k ≡ false → ((i : ℕ) → i < k → printable_at position i ≡ true) → write_fault base r position room ≡ Bad (Byte k)
+    → printable_at position k ≡ false → ((i : ℕ) → i < k → printable_at position i ≡ true) → write_fault base r position room ≡ Err (Byte k)
 unfolding write_fault length_bad
 lowest_unprintable base r position room k h d l b e f =
     let n = first_unprintable_is position k (omega arith) e f in

@@ -1,5 +1,7 @@
 -- L9, "The reading's offset becomes quarter hours, -48..+56. Uni Erlangen takes minutes 00, 15, 30 and 45": no other minutes are taken,
 -- and each of the 105 offsets goes into a string and comes back.
+use Rattle.reading.specs.Faults.{no_fault}
+use Rattle.std.specs.Prelude.{Ok}
 use mathlib.Core.Bool.{Bool, true, false, beq, ◌&&◌}
 use mathlib.Core.List.{List, [], ◌∷◌}
 use mathlib.Core.Path.{◌≡◌, refl}
@@ -13,12 +15,10 @@ use Rattle.laws.proofs.Bools.{same_bool}
 use Rattle.laws.proofs.Tested.{at}
 use Rattle.calendar.specs.Calendar.{leap_year, days_in, is_month, last_day, is_day, is_date}
 use Rattle.wire.specs.Layout.{printable, printables}
-use Rattle.reading.specs.declared.Verdict.TheVariants.{Good}
 use Rattle.reading.specs.Years.{usual_base as base, in_hundred, is_base, first_year}
 use Rattle.reading.specs.Offset.{unit, westmost, eastmost, offset_good}
 use Rattle.reading.specs.Leap.{sixty_bad}
 use Rattle.reading.specs.Checks.{time_bad, date_bad, checked_of, sound_of}
-use Rattle.strings.specs.declared.Answer.TheVariants.{Time}
 use Rattle.erlangen.specs.Layout.{size}
 use Rattle.erlangen.specs.Offset.{whole_units}
 use Rattle.erlangen.specs.Meaning.{read_erlangen}
@@ -31,12 +31,12 @@ pub how_many : westmost + 1 + eastmost ≡ 105
 how_many = refl
 
 -- 2024-02-29 12:34:56 at any of them is written
-pub each_offset_written : (z : ℤ) → offset_good z ≡ true → write_fault base (reading z) spaces size ≡ Good
+pub each_offset_written : (z : ℤ) → offset_good z ≡ true → write_fault base (reading z) spaces size ≡ no_fault
 unfolding reading write_fault length_bad carried_of not_carried printables printable checked_of time_bad date_bad in_hundred is_date is_month is_day last_day days_in leap_year sixty_bad first_year is_base sound_of
 each_offset_written z e = rw e
 
 -- and read back
-pub each_offset_back : (z : ℤ) → offset_good z ≡ true → read_erlangen base (bytes_of (reading z) false spaces) ≡ Time (reading z) false
+pub each_offset_back : (z : ℤ) → offset_good z ≡ true → read_erlangen base (bytes_of (reading z) false spaces) ≡ Ok ((reading z), false)
 each_offset_back z e = (bytes_read base (reading z) false spaces size (each_offset_written z e)).0
 
 -- "minutes 00, 15, 30 and 45", and no others

@@ -1,4 +1,5 @@
 -- An accepted string is the one that its own reading, coasting mark and position part are written as, row by row.
+use Rattle.reading.specs.Faults.{no_fault}
 use mathlib.Core.Bool.{Bool, true, false, cond, ◌&&◌, beq}
 use mathlib.Core.List.{List, [], ◌∷◌, ◌++◌}
 use mathlib.Core.Path.{◌≡◌, refl, sym, ◌∙◌}
@@ -15,7 +16,6 @@ use Rattle.laws.proofs.Tested.{at}
 use Rattle.wire.specs.Layout.{packed, exactly, from, either, printable, printables}
 use Rattle.wire.specs.Digits.{pair, tens, ones}
 use Rattle.wire.proofs.LayoutLaws.{all-printables}
-use Rattle.reading.specs.declared.Verdict.TheVariants.{Good}
 use Rattle.reading.specs.Years.{in_hundred, year_of}
 use Rattle.reading.specs.Offset.{offset_good}
 use Rattle.reading.specs.Checks.{checked_of}
@@ -170,7 +170,7 @@ module _ (base : ℕ) (s : List ℕ) (p : Accepted base s) where
   unfolding reading_of
   year_good = year_in_lem base (pair s 7)
 
-  pub reading_checked : checked_of base (reading_of base s) ≡ Good
+  pub reading_checked : checked_of base (reading_of base s) ≡ no_fault
   reading_checked =
       let q = p.sounds in
       is_checked base (reading_of base s) (record {

@@ -1,4 +1,6 @@
 -- Stand-ins for what reads and what writes that "have to break" the contract: no function that meets it is one of them.
+use Rattle.strings.specs.Checks.{Answer}
+use Rattle.std.specs.Prelude.{Err, Ok}
 use mathlib.Core.Bool.{Bool, false}
 use mathlib.Core.List.{List}
 use mathlib.Core.Path.{◌≡◌, refl, sym, ap, ◌∙◌}
@@ -14,8 +16,6 @@ use Rattle.reading.specs.Faults.{number}
 use Rattle.reading.specs.Years.{usual_base as base, is_base}
 use Rattle.reading.specs.Writing.{filled}
 use Rattle.reading.proofs.CheckLaws.{clash}
-use Rattle.strings.specs.declared.Answer.{Answer}
-use Rattle.strings.specs.declared.Answer.TheVariants.{Time, No}
 use Rattle.erlangen.specs.Layout.{size, layout}
 use Rattle.erlangen.specs.Meaning.{fault_in, read_erlangen}
 use Rattle.erlangen.specs.Writing.{bytes_of, write_fault}
@@ -26,12 +26,12 @@ different : reading hour_ahead ≡ reading (pos 0) → ⊥
 unfolding reading
 different e = let z : hour_ahead ≡ pos 0 = ap (λ (r : Reading). r.offset.0) e in let n : ◌≡◌ {A = ℕ} 4 0 = cc in omega arith
 
-zeros_refused : read_erlangen base (replicate size 0) ≡ No (number (Byte 0))
+zeros_refused : read_erlangen base (replicate size 0) ≡ Err (number (Byte 0))
 unfolding read_erlangen fault_in layout good_places allowed within beside exactly from either packed is_base
 zeros_refused = refl
 
 -- "a reader that refuses everything (demand 2 accepts all written frames)"
-pub refuses_everything : (f : List ℕ → Answer) → ((s : List ℕ) → f s ≡ read_erlangen base s) → ((s : List ℕ) → (x : Refusal) × (f s ≡ No x)) → ⊥
+pub refuses_everything : (f : List ℕ → Answer) → ((s : List ℕ) → f s ≡ read_erlangen base s) → ((s : List ℕ) → (x : Refusal) × (f s ≡ Err x)) → ⊥
 refuses_everything f meets refuses =
     let s = bytes_of (reading hour_ahead) false spaces in
     let x = refuses s in
@@ -42,7 +42,7 @@ refuses_everything f meets refuses =
 
 -- "one fixed time for all (read and rewritten bytes would differ)"
 pub tells_one_time : (f : List ℕ → Answer) (r : Reading) → ((s : List ℕ) → f s ≡ read_erlangen base s)
-    → ((s : List ℕ) (t : Reading) (coasting : Bool) → f s ≡ Time t coasting → t ≡ r) → ⊥
+    → ((s : List ℕ) (t : Reading) (coasting : Bool) → f s ≡ Ok (t, coasting) → t ≡ r) → ⊥
 tells_one_time f r meets one =
     let a = one (string usual (ahead 0 1 0 0) none) (reading hour_ahead) false (meets _ ∙ worked_read.0) in
     let b = one (string usual (ahead 0 0 0 0) none) (reading (pos 0)) false (meets _ ∙ worked_read.1) in

@@ -8,12 +8,10 @@ use Rattle.erlangen.proofs.read.for_clock_string.Kinds as for-clock-string-kinds
 use Rattle.erlangen.proofs.read.for_clock_string.Reads as for-clock-string-reads
 use Rattle.erlangen.proofs.Erlangen.write.Kinds as write-kinds
 use Rattle.erlangen.proofs.Erlangen.write.Reads as write-reads
-use Rattle.erlangen.proofs.layout.good_places.Kinds as good-places-kinds
-use Rattle.erlangen.proofs.layout.good_places.Reads as good-places-reads
-use Rattle.erlangen.proofs.offset.offset_bad.Kinds as offset-bad-kinds
-use Rattle.erlangen.proofs.offset.offset_bad.Reads as offset-bad-reads
-use Rattle.erlangen.proofs.offset.offset_of.Kinds as offset-of-kinds
-use Rattle.erlangen.proofs.offset.offset_of.Reads as offset-of-reads
+use Rattle.erlangen.proofs.offset.Shown.is_bad.Kinds as is-bad-kinds
+use Rattle.erlangen.proofs.offset.Shown.is_bad.Reads as is-bad-reads
+use Rattle.erlangen.proofs.offset.Shown.offset.Kinds as offset-kinds
+use Rattle.erlangen.proofs.offset.Shown.offset.Reads as offset-reads
 use Rattle.erlangen.proofs.offset.is_behind.Kinds as is-behind-kinds
 use Rattle.erlangen.proofs.offset.is_behind.Reads as is-behind-reads
 use Rattle.erlangen.proofs.offset.minutes_of.Kinds as minutes-of-kinds
@@ -28,14 +26,11 @@ write_one κs a x y e f p q = (cc, cc)
 
 -- ---- what the crate's own files call
 
-pub good_places_one : Coincide 1 good-places-kinds.ps good-places-kinds.r good-places-reads.Post
-good_places_one κs a x y e f p q = cc
+pub is_bad_one : Coincide 0 is-bad-kinds.ps is-bad-kinds.r is-bad-reads.Post
+is_bad_one κs a x y e f p q = cc
 
-pub offset_bad_one : Coincide 0 offset-bad-kinds.ps offset-bad-kinds.r offset-bad-reads.Post
-offset_bad_one κs a x y e f p q = cc
-
-pub offset_of_one : Coincide 0 offset-of-kinds.ps offset-of-kinds.r offset-of-reads.Post
-offset_of_one κs a x y e f p q = cc
+pub offset_one : Coincide 0 offset-kinds.ps offset-kinds.r offset-reads.Post
+offset_one κs a x y e f p q = cc
 
 pub is_behind_one : Coincide 0 is-behind-kinds.ps is-behind-kinds.r is-behind-reads.Post
 is_behind_one κs a x y e f p q = cc

@@ -1,5 +1,6 @@
 -- 2024-02-29 12:34:56 read and written, which offsets a string may say, what each letter says, the mark of a leap second, and
 -- which of several faults is told: literal bytes and literal answers, computed from the definitions.
+use Rattle.std.specs.Prelude.{Err, Ok}
 use mathlib.Core.Bool.{Bool, true, false}
 use mathlib.Core.List.{List, [], ◌∷◌, ◌++◌, map}
 use mathlib.Core.Path.{◌≡◌, refl}
@@ -10,16 +11,13 @@ use Rattle.wire.specs.Layout.{packed, exactly, from, either, within, beside, all
 use Rattle.wire.specs.Digits.{digit, pair, tens, ones}
 use Rattle.calendar.specs.Calendar.{leap_year, days_in, last_day, is_month, is_day, is_date, days_before, day_of_year, year_length, days_before_year, day_number, weekday_of}
 use Rattle.reading.specs.declared.Reading.{Reading}
-use Rattle.reading.specs.declared.Verdict.TheVariants.{Good}
-use Rattle.reading.specs.Faults.{number}
+use Rattle.reading.specs.Faults.{number, no_fault}
 use Rattle.reading.specs.Years.{usual_base as base, in_hundred, year_of, is_base, first_year}
 use Rattle.reading.specs.Offset.{west, east, offset_good}
 use Rattle.reading.specs.Universal.{utc_minutes, on_day, utc_of}
 use Rattle.reading.specs.Leap.{closes_with_leap, leap_minute, sixty_bad}
 use Rattle.reading.specs.Checks.{time_bad, date_bad, checked_of, day_bad, month_bad, weekday_wrong, sound_of}
-use Rattle.strings.specs.declared.Answer.{Answer}
-use Rattle.strings.specs.declared.Answer.TheVariants.{Time, No}
-use Rattle.strings.specs.Checks.{weekday_bad, fault_of}
+use Rattle.strings.specs.Checks.{weekday_bad, fault_of, Answer}
 use Rattle.erlangen.specs.Layout.{size, layout}
 use Rattle.erlangen.specs.Offset.{whole_units, units_of, too_far, offset_bad, signed, offset_of, is_behind, minutes_of}
 use Rattle.erlangen.specs.Meaning.{shows, weekday_said, coasting_said, offset_wrong, mark_wrong, reading_of, fault_in, read_erlangen}
@@ -111,13 +109,13 @@ abbrev pub hour_ahead : ℤ
 hour_ahead = pos 4
 
 abbrev refused : ℕ → ℕ → Answer
-refused code place = No (record { code = code; place = place })
+refused code place = Err (record { code = code; place = place })
 
 pub worked_bytes : bytes_of (reading hour_ahead) false spaces ≡ string usual (ahead 0 1 0 0) none
 unfolding reading string bytes_of date_bytes time_bytes offset_bytes flag_bytes is_behind minutes_of west east tens ones weekday_of day_number day_of_year days_before_year days_before days_in year_length leap_year
 worked_bytes = refl
 
-pub worked_carried : write_fault base (reading hour_ahead) spaces size ≡ Good
+pub worked_carried : write_fault base (reading hour_ahead) spaces size ≡ no_fault
 unfolding reading write_fault length_bad carried_of not_carried printables printable checked_of time_bad date_bad in_hundred is_date is_month is_day last_day days_in leap_year offset_good west east sixty_bad first_year is_base sound_of
 worked_carried = refl
 
@@ -156,16 +154,16 @@ abbrev leap_wrong : List (List ℕ)
 leap_wrong = string sixty (ahead 0 0 0 0) none ∷ string usual (ahead 0 0 0 0) leap_mark ∷ string sixty (ahead 0 1 0 0) leap_mark ∷ []
 
 pub worked_read :
-    (read_erlangen base (string usual (ahead 0 1 0 0) none) ≡ Time (reading hour_ahead) false)
-    × (read_erlangen base (string usual (ahead 0 0 0 0) none) ≡ Time (reading (pos 0)) false)
+    (read_erlangen base (string usual (ahead 0 1 0 0) none) ≡ Ok ((reading hour_ahead), false))
+    × (read_erlangen base (string usual (ahead 0 0 0 0) none) ≡ Ok ((reading (pos 0)), false))
     × (map (read_erlangen base) accepted
-    ≡ Time (reading (pos 56)) false ∷ Time (reading (negsuc 47)) false ∷ Time at_leap_second false ∷ [])
+    ≡ Ok ((reading (pos 56)), false) ∷ Ok ((reading (negsuc 47)), false) ∷ Ok (at_leap_second, false) ∷ [])
     × (map (read_erlangen base) quarters
-    ≡ Time (reading (pos 20)) false ∷ Time (reading (pos 21)) false ∷ Time (reading (pos 22)) false ∷ Time (reading (pos 23)) false
-    ∷ Time (reading (negsuc 37)) false ∷ Time (reading (pos 1)) false ∷ Time (reading (negsuc 0)) false ∷ [])
+    ≡ Ok ((reading (pos 20)), false) ∷ Ok ((reading (pos 21)), false) ∷ Ok ((reading (pos 22)), false) ∷ Ok ((reading (pos 23)), false)
+    ∷ Ok ((reading (negsuc 37)), false) ∷ Ok ((reading (pos 1)), false) ∷ Ok ((reading (negsuc 0)), false) ∷ [])
     × (map (read_erlangen base) lettered
-    ≡ Time (flagged (pos 4) false false false 15) false ∷ Time (flagged (pos 4) false false false 0) true ∷ Time (flagged (pos 8) true false false 0) false
-    ∷ Time (flagged (pos 4) false false true 0) false ∷ Time (flagged (pos 4) false true false 0) false ∷ [])
+    ≡ Ok ((flagged (pos 4) false false false 15), false) ∷ Ok ((flagged (pos 4) false false false 0), true) ∷ Ok ((flagged (pos 8) true false false 0), false)
+    ∷ Ok ((flagged (pos 4) false false true 0), false) ∷ Ok ((flagged (pos 4) false true false 0), false) ∷ [])
     × (read_erlangen base (string usual (ahead 0 1 0 0) (letters 37 32 32 32 32 32)) ≡ refused 2 32)
     × (map (read_erlangen base) out_of_range ≡ refused 16 11 ∷ refused 16 11 ∷ refused 16 4 ∷ [])
     × (read_erlangen base (string (on 0 2 3) (behind 0 0 0 0) none) ≡ refused 6 11)

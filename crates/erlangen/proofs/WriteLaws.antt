@@ -1,13 +1,14 @@
--- The bytes of what a writer carries are read as just that: the reading, the coasting mark and the position part.
+-- The bytes of what a writer carries are all that is owed to its buffer, and are read as just that: the reading, the coasting mark and the
+-- position part.
 use mathlib.Core.Bool.{Bool, true, false, cond, not, beq}
-use mathlib.Core.List.{List, [], ◌∷◌}
+use mathlib.Core.List.{List, [], ◌∷◌, ◌++◌}
 use mathlib.Core.Path.{◌≡◌, refl, sym}
 use Prim.Native.Nat.{ℕ, ◌/◌, ◌%◌, ◌≤◌, ◌<◌}
 use native.Mathlib.Decide.{ℕ_discrete}
 use native.Mathlib.Nat.{mod-eq_of_lt}
 use native.Mathlib.Omega.{arith}
 use lib.Dec.{T, eqb, leb, leb→le}
-use lib.ListN.{take, drop}
+use lib.ListN.{length, take, drop}
 use lib.Seq.{take_at}
 use borrow.Author.Tests.{not-true, eq-eqb, ne_eqb, le-leb}
 use Rattle.laws.proofs.Bools.{is_true}
@@ -21,16 +22,24 @@ use Rattle.calendar.proofs.DateLaws.{real, month_of}
 use Rattle.calendar.proofs.WeekdayLaws.{weekday_range}
 use Rattle.reading.specs.declared.Reading.{Reading}
 use Rattle.reading.specs.Universal.{date_of}
+use Rattle.reading.specs.Faults.{no_fault}
+use Rattle.reading.specs.Writing.{filled}
 use Rattle.reading.proofs.YearLaws.{year_back}
 use Rattle.reading.proofs.CheckLaws.{Checked, checked_is}
-use Rattle.erlangen.specs.Layout.{position_at, position_size, etx, space, plus, minus, hash, star, letter_s, bang, letter_a, letter_l}
+use Rattle.erlangen.specs.Layout.{size, position_at, position_size, etx, space, plus, minus, hash, star, letter_s, bang, letter_a, letter_l}
 use Rattle.erlangen.specs.Offset.{is_behind, minutes_of}
 use Rattle.erlangen.specs.Meaning.{shows, weekday_said, coasting_said, offset_wrong, mark_wrong, reading_of}
-use Rattle.erlangen.specs.Writing.{date_bytes, time_bytes, offset_bytes, flag_bytes, bytes_of, not_carried}
+use Rattle.erlangen.specs.Writing.{date_bytes, time_bytes, offset_bytes, flag_bytes, bytes_of, not_carried, write_fault}
 use Rattle.erlangen.proofs.OffsetLaws.{written_said, written_back, hours_few}
-use Rattle.erlangen.proofs.FaultLaws.{Accepted, Carried}
+use Rattle.erlangen.proofs.FaultLaws.{Accepted, Carried, given_size}
 use Rattle.erlangen.proofs.BytesLaws.{bytes-length}
 use Rattle.erlangen.proofs.FitLaws.{fit_good, bytes_fit}
+
+-- where nothing is wrong, the text before the rest of the buffer is all that is owed
+pub stored_text : (base : ℕ) (r : Reading) (coasting : Bool) (position buffer : List ℕ) → no_fault ≡ write_fault base r position (length buffer)
+    → bytes_of r coasting position ++ drop size buffer ≡ filled (write_fault base r position (length buffer)) (bytes_of r coasting position) buffer
+stored_text base r coasting position buffer e =
+    rw (sym e, bytes-length r coasting position (given_size base r position (length buffer) e))
 
 -- ---- single fields
 

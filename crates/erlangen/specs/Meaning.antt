@@ -5,13 +5,11 @@ use Rattle.wire.specs.Layout.{good_places}
 use Rattle.wire.specs.Digits.{digit, pair}
 use Rattle.reading.specs.declared.Reading.{Reading}
 use Rattle.reading.specs.declared.Fault.TheVariants.{Length, Byte}
-use Rattle.reading.specs.declared.Verdict.{Verdict}
-use Rattle.reading.specs.Faults.{first}
+use Rattle.reading.specs.Faults.{first, Verdict}
 use Rattle.reading.specs.Checks.{on_base}
 use Rattle.reading.specs.Years.{year_of}
 use Rattle.strings.specs.declared.Places.{Places}
-use Rattle.strings.specs.declared.Answer.{Answer}
-use Rattle.strings.specs.Checks.{fault_of, answer_of}
+use Rattle.strings.specs.Checks.{fault_of, answer_of, Answer}
 use Rattle.erlangen.specs.Layout.{size, position_at, position_size, minus, hash, star, letter_s, bang, letter_a, letter_l, layout}
 use Rattle.erlangen.specs.Offset.{offset_bad, offset_of}
 

@@ -5,9 +5,7 @@ use Rattle.wire.specs.Layout.{printables}
 use Rattle.wire.specs.Digits.{tens, ones}
 use Rattle.reading.specs.declared.Reading.{Reading}
 use Rattle.reading.specs.declared.Fault.TheVariants.{Length, Byte, NotCarried}
-use Rattle.reading.specs.declared.Verdict.{Verdict}
-use Rattle.reading.specs.declared.Verdict.TheVariants.{Good}
-use Rattle.reading.specs.Faults.{first}
+use Rattle.reading.specs.Faults.{first, Verdict, no_fault}
 use Rattle.reading.specs.Writing.{and_then}
 use Rattle.reading.specs.Universal.{date_of}
 use Rattle.reading.specs.Checks.{on_base, sound_of}
@@ -52,7 +50,7 @@ length_bad position room = ltb room size || not (eqb (length position) position_
 
 -- the checks that every writer makes of a reading, beside whatever base, then whether this format carries it
 unfoldable pub carried_of : ℕ → Reading → Verdict
-carried_of base r = and_then (sound_of base r) (first (not_carried r.quality) NotCarried Good)
+carried_of base r = and_then (sound_of base r) (first (not_carried r.quality) NotCarried no_fault)
 
 -- the first fault of what a writer is given: 19 goes before a bad byte of the position, which goes before the reading's own faults
 unfoldable pub write_fault : ℕ → Reading → List ℕ → ℕ → Verdict

@@ -1,45 +1,60 @@
-// What may stand at each place of a string, as columns of `wire::layout`.
-ghost use Rattle.std.specs.Prelude.{◌≡◌};
-ghost use Rattle.wire.specs.Layout.{all_good, good_places};
-ghost use Rattle.erlangen.specs.Layout.{layout};
+// What may stand at each place of a string, as columns of `wire::layout`, and where its fields stand.
+use strings::Places;
+use wire::layout::Columns;
 
-use super::Erlangen;
-use wire::layout;
+// The first place of each field.
+pub(crate) const DAY: usize = 1;
 
-// Both ends of a range, which is wider than one byte at a digit and in the position.
-const LOW: [u8; 68] =
-    *b"\x0200.00.00; 0; 00:00:00; -00:00; #*S!A L;                           \x03";
+pub(crate) const MONTH: usize = 4;
 
-const HIGH: [u8; 68] =
-    *b"\x0299.99.99; 9; 99:99:99; -99:99; #*S!A L; ~~~~~~~~~~~~~~~~~~~~~~~~~~\x03";
+pub(crate) const YEAR: usize = 7;
 
-// The one byte that may stand beside it: `+` beside `-`, and a space beside each mark. It serves as two columns.
-const BESIDE: [u8; 68] =
-    *b"\x0200.00.00; 0; 00:00:00; +00:00;        ;                           \x03";
+pub(crate) const WEEKDAY: usize = 11;
 
-fn is_formed(s: &[u8]) -> bool
-    ensures { result ≡ all_good layout s.now }
-{
-    let beside = BESIDE;
-    layout::all_allowed(&LOW, &HIGH, &beside, &beside, s)
-}
+pub(crate) const HOUR: usize = 14;
 
-fn lowest_bad(s: &[u8]) -> usize
-    ensures { result ≡ good_places layout s.now }
-{
-    let beside = BESIDE;
-    layout::good_places_by(&LOW, &HIGH, &beside, &beside, s)
-}
+pub(crate) const MINUTE: usize = 17;
 
-// How many bytes from the start are allowed where they stand: a bad one is looked for only where there is one, in a function of
-// its own, so that the columns are laid out for that search only then.
-pub(crate) fn good_places(s: &[u8]) -> usize
-    ensures { result ≡ good_places layout s.now }
-{
-    if s.len() <= Erlangen::LENGTH {
-        if is_formed(s) {
-            return s.len();
-        }
-    }
-    lowest_bad(s)
-}
+pub(crate) const SECOND: usize = 20;
+
+pub(crate) const SIGN: usize = 24;
+
+pub(crate) const OFFSET_HOURS: usize = 25;
+
+pub(crate) const OFFSET_MINUTES: usize = 28;
+
+pub(crate) const FAILURE: usize = 32;
+
+pub(crate) const COASTING: usize = 33;
+
+pub(crate) const SUMMER: usize = 34;
+
+pub(crate) const CHANGE: usize = 35;
+
+pub(crate) const LEAP: usize = 36;
+
+pub(crate) const LEAP_SECOND: usize = 38;
+
+pub(crate) const POSITION: usize = 41;
+
+// Where the fields stand whose faults have a place.
+pub(crate) const PLACES: Places = Places {
+    day: DAY,
+    month: MONTH,
+    weekday: WEEKDAY,
+    hour: HOUR,
+    minute: MINUTE,
+    second: SECOND,
+    offset: SIGN,
+};
+
+// The one byte that may stand beside a range: `+` beside `-`, and a space beside each mark. It serves as two columns.
+const BESIDE: &[u8] = b"\x0200.00.00; 0; 00:00:00; +00:00;        ;                           \x03";
+
+// A range is wider than one byte at a digit and in the position.
+pub(crate) const COLUMNS: Columns<'static> = Columns {
+    low: b"\x0200.00.00; 0; 00:00:00; -00:00; #*S!A L;                           \x03",
+    high: b"\x0299.99.99; 9; 99:99:99; -99:99; #*S!A L; ~~~~~~~~~~~~~~~~~~~~~~~~~~\x03",
+    other: BESIDE,
+    third: BESIDE,
+};

@@ -8,7 +8,7 @@ pub mod read;
 mod writing;
 
 // The format.
-#[derive(Clone, Copy)]
+#[derive(Clone, Copy, Debug, PartialEq, Eq)]
 pub struct Erlangen {}
 
 impl Erlangen {

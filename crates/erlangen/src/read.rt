@@ -1,107 +1,103 @@
 // For the crate `clock_string` alone, which reads clock strings: what a Uni Erlangen string says, field by field, and its
 // first fault.
-ghost use Rattle.std.specs.Prelude.{◌≡◌, cond};
-ghost use Rattle.strings.specs.Checks.{fault_of};
-ghost use Rattle.erlangen.specs.Meaning.{places, shows, weekday_said, coasting_said, offset_wrong, mark_wrong, reading_of, read_erlangen};
+ghost use Rattle.std.specs.Prelude.{◌≡◌};
+ghost use Rattle.wire.specs.Digits.{pair};
+ghost use Rattle.erlangen.specs.Layout.{size, minus};
+ghost use Rattle.erlangen.specs.Meaning.{shows, offset_wrong, mark_wrong, read_erlangen};
+ghost use Rattle.erlangen.specs.Format.{format, last_place, fits};
 
-use super::Erlangen;
-use super::layout::good_places;
-use super::offset::{offset_bad, offset_of};
-use reading::faults::refusal_of;
-use reading::years::{is_base, year_of};
-use reading::{Fault, Reading, Verdict};
-use strings::{Answer, Places, fault_of, told};
+use super::offset::Shown;
+use super::{Erlangen, layout};
+use reading::years::year_of;
+use reading::{Fault, Reading, Refusal};
+use strings::letters::quality_of;
+use strings::reader::ClockString;
+use strings::{fault_of, reader};
 use wire::digits::{one_digit, two_digits};
-use wire::layout::byte_at;
+use wire::layout::{Columns, byte_at};
 
-const PLACES: Places = Places {
-    day: 1,
-    month: 4,
-    weekday: 11,
-    hour: 14,
-    minute: 17,
-    second: 20,
-    offset: 24,
-};
-
+#[tactic(auto, unfolding(crate::specs::Meaning::shows))]
 fn shows(s: &[u8], place: usize, byte: u8) -> bool
     ensures { result ≡ shows s.now place byte }
 {
     byte_at(s, place) == byte
 }
 
-fn weekday_said(s: &[u8]) -> u8
-    ensures { result ≡ weekday_said s.now }
+fn shown(s: &[u8]) -> Shown
+    ensures { result ≡ record { behind = shows s.now 24 minus; hours = pair s.now 25; minutes = pair s.now 28 } }
 {
-    one_digit(s, 11)
+    Shown {
+        behind: shows(s, layout::SIGN, b'-'),
+        hours: two_digits(s, layout::OFFSET_HOURS),
+        minutes: two_digits(s, layout::OFFSET_MINUTES),
+    }
 }
 
-fn coasting_said(s: &[u8]) -> bool
-    ensures { result ≡ coasting_said s.now }
-{
-    shows(s, 33, b'*')
-}
-
+#[tactic(auto, unfolding(crate::specs::Meaning::offset_wrong))]
 fn offset_wrong(s: &[u8]) -> bool
     ensures { result ≡ offset_wrong s.now }
 {
-    offset_bad(shows(s, 24, b'-'), two_digits(s, 25), two_digits(s, 28))
+    shown(s).is_bad()
 }
 
+#[tactic(auto, unfolding(crate::specs::Meaning::mark_wrong))]
 fn mark_wrong(s: &[u8]) -> bool
     ensures { result ≡ mark_wrong s.now }
 {
-    shows(s, 38, b'L') != (two_digits(s, 20) == 60)
+    shows(s, layout::LEAP_SECOND, b'L') != (two_digits(s, layout::SECOND) == 60)
 }
 
-fn quality_of(failed: bool) -> u8
-    ensures { result ≡ cond failed 15 0 }
-{
-    if failed {
-        return 15;
+impl ClockString for Erlangen {
+    ghost format = { format };
+
+    ghost LENGTH = { size };
+
+    ghost LAST = { last_place };
+
+    ghost fits = { fits };
+
+    const LENGTH: usize = Erlangen::LENGTH;
+
+    const LAST: usize = Erlangen::LAST;
+
+    fn columns() -> Columns<'static> {
+        layout::COLUMNS
     }
-    0
-}
 
-fn reading_of(base: u16, s: &[u8]) -> Reading
-    ensures { result ≡ reading_of base s.now }
-{
-    let offset = offset_of(shows(s, 24, b'-'), two_digits(s, 25), two_digits(s, 28));
-    Reading {
-        year: year_of(base, two_digits(s, 7)),
-        month: two_digits(s, 4),
-        day: two_digits(s, 1),
-        hour: two_digits(s, 14),
-        minute: two_digits(s, 17),
-        second: two_digits(s, 20),
-        offset,
-        summer: shows(s, 34, b'S'),
-        leap: shows(s, 36, b'A'),
-        change: shows(s, 35, b'!'),
-        quality: quality_of(shows(s, 32, b'#')),
+    #[tactic(auto, unfolding(crate::specs::Meaning::reading_of))]
+    fn reading(base: u16, s: &[u8]) -> Reading {
+        Reading {
+            year: year_of(base, two_digits(s, layout::YEAR)),
+            month: two_digits(s, layout::MONTH),
+            day: two_digits(s, layout::DAY),
+            hour: two_digits(s, layout::HOUR),
+            minute: two_digits(s, layout::MINUTE),
+            second: two_digits(s, layout::SECOND),
+            offset: shown(s).offset(),
+            summer: shows(s, layout::SUMMER, b'S'),
+            leap: shows(s, layout::LEAP, b'A'),
+            change: shows(s, layout::CHANGE, b'!'),
+            quality: quality_of(shows(s, layout::FAILURE, b'#')),
+        }
+    }
+
+    #[tactic(auto, unfolding(crate::specs::Meaning::weekday_said))]
+    fn said_fault(r: Reading, s: &[u8]) -> Result<(), Fault> {
+        let weekday = one_digit(s, layout::WEEKDAY);
+        fault_of(r, weekday, offset_wrong(s), mark_wrong(s), layout::PLACES)
+    }
+
+    #[tactic(auto, unfolding(crate::specs::Meaning::coasting_said))]
+    fn is_coasting(s: &[u8]) -> bool {
+        shows(s, layout::COASTING, b'*')
     }
 }
 
-fn said_fault(s: &[u8], r: Reading) -> Verdict
-    ensures { result ≡ fault_of r (weekday_said s.now) (offset_wrong s.now) (mark_wrong s.now) places }
-{
-    fault_of(r, weekday_said(s), offset_wrong(s), mark_wrong(s), PLACES)
-}
-
-// The form comes first, so that a string of another form costs no more than finding that out.
-pub fn for_clock_string(base: u16, s: &[u8]) -> Answer
+// The generic reader at this format. docs/PROMISES.md goes by its definition, `read_erlangen`, and two wrong programs name it:
+// `one_time_for_all` here, and `sixty_eight_read_as_meinberg` of `clock_string`.
+#[tactic(auto, unfolding(crate::specs::Meaning::fault_in, crate::specs::Meaning::read_erlangen))]
+pub fn for_clock_string(base: u16, s: &[u8]) -> Result<(Reading, bool), Refusal>
     ensures { result ≡ read_erlangen base s.now }
 {
-    if s.len() != Erlangen::LENGTH {
-        return Answer::No(refusal_of(Fault::Length));
-    }
-    if !is_base(base) {
-        return Answer::No(refusal_of(Fault::OtherBase));
-    }
-    let good = good_places(s);
-    if good < Erlangen::LENGTH {
-        return Answer::No(refusal_of(Fault::Byte(good)));
-    }
-    let r = reading_of(base, s);
-    told(said_fault(s, r), r, coasting_said(s))
+    reader::for_clock_string::<Erlangen>(base, s)
 }

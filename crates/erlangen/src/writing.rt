@@ -2,40 +2,32 @@
 ghost use Rattle.std.specs.Prelude.{◌≡◌, cond, ◌++◌, ◌≤◌, length, drop};
 ghost use Rattle.reading.specs.Writing.{written_of, filled};
 ghost use Rattle.erlangen.specs.Layout.{size, position_size, minus, plus};
-ghost use Rattle.erlangen.specs.Writing.{date_bytes, time_bytes, offset_bytes, flag_bytes, bytes_of, not_carried, length_bad, carried_of, write_fault};
+ghost use Rattle.erlangen.specs.Writing.{date_bytes, time_bytes, offset_bytes, flag_bytes, bytes_of, length_bad, carried_of, write_fault};
 
-use super::Erlangen;
 use super::offset::{is_behind, minutes_of};
-use calendar::Date;
+use super::{Erlangen, layout};
 use calendar::days::weekday;
 use reading::checks::sound;
-use reading::faults::refusal_of;
 use reading::years::is_base;
-use reading::{Fault, LocalMinusUtc, Reading, Verdict, Written};
-use strings::letters::mark;
+use reading::{Fault, LocalMinusUtc, Reading, Refusal};
+use strings::letters::{mark, quality_unshown};
 use wire::digits::{ones, tens};
 use wire::layout::unprintable_at;
 use wire::put::put_at;
 
-const POSITION: usize = 26;
+// How many bytes the position part has.
+const POSITION_SIZE: usize = 26;
 
 fn sign(behind: bool) -> u8
     ensures { result ≡ cond behind minus plus }
 {
-    if behind {
-        return b'-';
-    }
-    b'+'
+    if behind { b'-' } else { b'+' }
 }
 
+#[tactic(auto, unfolding(crate::specs::Writing::date_bytes))]
 fn date_bytes(r: Reading) -> [u8; 14]
     ensures { result ≡ date_bytes r }
 {
-    let date = Date {
-        year: r.year,
-        month: r.month,
-        day: r.day,
-    };
     let year = (r.year % 100) as u8;
     [
         2,
@@ -49,12 +41,13 @@ fn date_bytes(r: Reading) -> [u8; 14]
         ones(year),
         b';',
         b' ',
-        ones(weekday(date)),
+        ones(weekday(r.date())),
         b';',
         b' ',
     ]
 }
 
+#[tactic(auto, unfolding(crate::specs::Writing::time_bytes))]
 fn time_bytes(r: Reading) -> [u8; 10]
     ensures { result ≡ time_bytes r }
 {
@@ -72,6 +65,7 @@ fn time_bytes(r: Reading) -> [u8; 10]
     ]
 }
 
+#[tactic(auto, unfolding(crate::specs::Writing::offset_bytes))]
 fn offset_bytes(offset: LocalMinusUtc) -> [u8; 8]
     ensures { result ≡ offset_bytes offset.0 }
 {
@@ -90,6 +84,7 @@ fn offset_bytes(offset: LocalMinusUtc) -> [u8; 8]
     ]
 }
 
+#[tactic(auto, unfolding(crate::specs::Writing::flag_bytes))]
 fn flag_bytes(r: Reading, coasting: bool) -> [u8; 9]
     ensures { result ≡ flag_bytes r coasting }
 {
@@ -112,69 +107,64 @@ fn lay(r: Reading, coasting: bool, position: &[u8], out: &mut [u8])
     requires { (length position.now ≡ position_size) × (size ≤ length out.old) }
     ensures { out.new ≡ bytes_of r coasting position.now ++ drop size out.old }
 {
-    let offset = r.offset;
     put_at(out, 0, &date_bytes(r));
-    put_at(out, 14, &time_bytes(r));
-    put_at(out, 24, &offset_bytes(offset));
-    put_at(out, 32, &flag_bytes(r, coasting));
-    put_at(out, 41, position);
+    put_at(out, layout::HOUR, &time_bytes(r));
+    put_at(out, layout::SIGN, &offset_bytes(r.offset));
+    put_at(out, layout::FAILURE, &flag_bytes(r, coasting));
+    put_at(out, layout::POSITION, position);
     put_at(out, Erlangen::LAST, &[3]);
 }
 
-fn not_carried(quality: u8) -> bool
-    ensures { result ≡ not_carried quality }
-{
-    (1 <= quality) & (quality <= 14)
-}
-
+#[tactic(auto, unfolding(crate::specs::Writing::length_bad))]
 fn length_bad(position: &[u8], room: usize) -> bool
     ensures { result ≡ length_bad position.now room }
 {
-    (room < Erlangen::LENGTH) | (position.len() != POSITION)
+    (room < Erlangen::LENGTH) | (position.len() != POSITION_SIZE)
 }
 
-fn carried(base: u16, r: Reading) -> Verdict
+#[tactic(auto, unfolding(crate::specs::Writing::not_carried, crate::specs::Writing::carried_of))]
+fn carried(base: u16, r: Reading) -> Result<(), Fault>
     ensures { result ≡ carried_of base r }
 {
-    match sound(base, r) {
-        Verdict::Bad(fault) => Verdict::Bad(fault),
-        Verdict::Good => {
-            if not_carried(r.quality) {
-                return Verdict::Bad(Fault::NotCarried);
-            }
-            Verdict::Good
-        }
+    sound(base, r)?;
+    if quality_unshown(r.quality) {
+        return Err(Fault::NotCarried);
     }
+    Ok(())
 }
 
-fn write_fault(base: u16, r: Reading, position: &[u8], room: usize) -> Verdict
+#[tactic(auto, unfolding(crate::specs::Writing::write_fault))]
+fn write_fault(base: u16, r: Reading, position: &[u8], room: usize) -> Result<(), Fault>
     ensures { result ≡ write_fault base r position.now room }
 {
     if length_bad(position, room) {
-        return Verdict::Bad(Fault::Length);
+        return Err(Fault::Length);
     }
     if !is_base(base) {
-        return Verdict::Bad(Fault::OtherBase);
+        return Err(Fault::OtherBase);
     }
     let good = unprintable_at(position);
-    if good < POSITION {
-        return Verdict::Bad(Fault::Byte(good));
+    if good < POSITION_SIZE {
+        return Err(Fault::Byte(good));
     }
     carried(base, r)
 }
 
 impl Erlangen {
     // Everything is decided before the first byte is stored.
-    pub fn write(base: u16, r: Reading, coasting: bool, position: &[u8], out: &mut [u8]) -> Written
+    #[tactic(auto, using(crate::proofs::FaultLaws::given_size, crate::proofs::FaultLaws::given_room, crate::proofs::WriteLaws::stored_text))]
+    pub fn write(
+        base: u16,
+        r: Reading,
+        coasting: bool,
+        position: &[u8],
+        out: &mut [u8],
+    ) -> Result<usize, Refusal>
         ensures value { result ≡ written_of (write_fault base r position.now (length out.old)) size }
         ensures out_after { out.new ≡ filled (write_fault base r position.now (length out.old)) (bytes_of r coasting position.now) out.old }
     {
-        match write_fault(base, r, position, out.len()) {
-            Verdict::Bad(fault) => Written::No(refusal_of(fault)),
-            Verdict::Good => {
-                lay(r, coasting, position, out);
-                Written::Length(Erlangen::LENGTH)
-            }
-        }
+        write_fault(base, r, position, out.len())?;
+        lay(r, coasting, position, out);
+        Ok(Erlangen::LENGTH)
     }
 }

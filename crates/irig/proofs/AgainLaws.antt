@@ -13,7 +13,7 @@ use Rattle.laws.specs.Tests.{below}
 use Rattle.laws.proofs.Tested.{at}
 use Rattle.calendar.specs.Calendar.{leap_year, day_of_year, is_date}
 use Rattle.calendar.proofs.DateLaws.{is_date_lem}
-use Rattle.calendar.proofs.TableLaws.{OnDay, on_day_lem, of_year}
+use Rattle.calendar.proofs.DayOfYearLaws.{OnDay, on_day_lem, of_year}
 use Rattle.reading.specs.declared.Reading.{Reading}
 use Rattle.reading.specs.Years.{is_base, in_hundred}
 use Rattle.reading.specs.Offset.{west, east, opposite}

@@ -1,4 +1,5 @@
 -- What the values of a frame without a fault say: each check's fact, and back.
+use Rattle.reading.specs.Faults.{no_fault}
 use mathlib.Core.Path.{◌≡◌}
 use mathlib.Core.Bool.{Bool, true, false, not, ◌&&◌, ◌||◌}
 use mathlib.Core.List.{List}
@@ -7,7 +8,6 @@ use lib.Dec.{eqb}
 use borrow.Author.Tests.{not-false, ltb-false, le-ltb, eqb-true, eq-eqb}
 use Rattle.laws.proofs.Bools.{neither}
 use Rattle.calendar.specs.Calendar.{leap_year, in_year}
-use Rattle.reading.specs.declared.Verdict.TheVariants.{Good}
 use Rattle.reading.specs.Offset.{offset_good, local_of}
 use Rattle.reading.specs.Universal.{utc_of}
 use Rattle.reading.specs.Leap.{sixty_bad}
@@ -54,7 +54,7 @@ pub record Sound (base : ℕ) (v : List ℕ) : Type 0 where
   pub insertion : is_set v deletion ≡ false
 
 module _ (base : ℕ) (v : List ℕ) where
-  fields_sound : fields_fault base v ≡ Good → Sound base v
+  fields_sound : fields_fault base v ≡ no_fault → Sound base v
   unfolding fields_fault day_bad second_of_day_wrong offset_bad
   fields_sound e =
       let second = first_good (second_bad (second_in v)) _ _ e in
@@ -78,7 +78,7 @@ module _ (base : ℕ) (v : List ℕ) where
         insertion = deleted.0;
       }
 
-  sound_fields : Sound base v → fields_fault base v ≡ Good
+  sound_fields : Sound base v → fields_fault base v ≡ no_fault
   unfolding fields_fault day_bad second_of_day_wrong offset_bad
   sound_fields s =
       rw (
@@ -94,7 +94,7 @@ module _ (base : ℕ) (v : List ℕ) where
       )
 
   module _ (odd : Bool) where
-    pub values-sound : values_fault base v odd ≡ Good → Digits v × (odd ≡ false) × Sound base v
+    pub values-sound : values_fault base v odd ≡ no_fault → Digits v × (odd ≡ false) × Sound base v
     unfolding values_fault
     values-sound e =
         let second = first_good (over_nine v seconds) _ _ e in
@@ -118,7 +118,7 @@ module _ (base : ℕ) (v : List ℕ) where
           fields_sound even.1,
         )
 
-    pub sound-values : Digits v → odd ≡ false → Sound base v → values_fault base v odd ≡ Good
+    pub sound-values : Digits v → odd ≡ false → Sound base v → values_fault base v odd ≡ no_fault
     unfolding values_fault
     sound-values d e s =
         rw (

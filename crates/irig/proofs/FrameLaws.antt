@@ -1,5 +1,7 @@
 -- The frame of a reading that a frame carries is read as that reading, and a frame that is read is the frame of its reading,
 -- which it carries. Both hold for any base year.
+use Rattle.reading.specs.Faults.{Verdict, no_fault}
+use Rattle.std.specs.Prelude.{Err, Ok}
 use mathlib.Core.Path.{◌≡◌, refl, sym, ap, subst, ◌∙◌}
 use mathlib.Core.Bool.{true, false, not}
 use mathlib.Core.List.{List}
@@ -10,8 +12,6 @@ use lib.Dec.{eqb, ltb}
 use lib.ListN.{length, get_or}
 use Rattle.reading.specs.declared.Reading.{Reading}
 use Rattle.reading.specs.Years.{is_base}
-use Rattle.reading.specs.declared.Verdict.{Verdict}
-use Rattle.reading.specs.declared.Verdict.TheVariants.{Good, Bad}
 use Rattle.reading.proofs.CheckLaws.{first_good, clash}
 use Rattle.pulses.specs.Row.{good_pulses, sums_of, row, ones_from}
 use Rattle.pulses.proofs.GoodLaws.{good_in_table}
@@ -19,7 +19,6 @@ use Rattle.pulses.proofs.RowLaws.{row_good}
 use Rattle.pulses.proofs.TripLaws.{written_sums}
 use Rattle.irig_table.specs.Table.{frame_pulses, parity}
 use Rattle.irig_table.proofs.TableLaws.{frame_length_lem, frame_sound, widths}
-use Rattle.irig.specs.declared.Answer.TheVariants.{Time}
 use Rattle.irig.specs.Meaning.{said, reading_of}
 use Rattle.irig.specs.Faults.{frame_length, parity_place, is_odd, fault_in, answer_of, read_frame}
 use Rattle.irig.specs.Writing.{values_of, before_parity, parity_of, frame_of}
@@ -48,13 +47,13 @@ module _ (base : ℕ) (r : Reading) (c : Carried base r) where
   unfolding is_odd
   not-odd = rw (frame_even r)
 
-  faultless : fault_in base (frame_of r) ≡ Good
+  faultless : fault_in base (frame_of r) ≡ no_fault
   unfolding fault_in
   faultless =
       rw (eq-eqb (length (frame_of r)) frame_length (length_frame r), c.checked.base_good, frame_good, frame_sums, not-odd)
       (sound-values base (values_of r (parity_of r)) false (values_digits base r (parity_of r) c) refl (values_are_sound base r (parity_of r) c))
 
-  pub frame_read : read_frame base (frame_of r) ≡ Time r
+  pub frame_read : read_frame base (frame_of r) ≡ Ok r
   unfolding read_frame
   frame_read = rw (faultless, frame_sums, reading_back base r (parity_of r) c)
 
@@ -69,15 +68,15 @@ pub record Accepted (base : ℕ) (s : List ℕ) (r : Reading) : Type 0 where
   pub sound : Sound base (sums_of frame_pulses s)
   pub is : reading_of base (sums_of frame_pulses s) ≡ r
 
-told_good : (v : Verdict) (x r : Reading) → answer_of v x ≡ Time r → (v ≡ Good) × (x ≡ r)
-told_good Good x r e = (refl, cc)
-told_good (Bad f) x r e = let z : ◌≡◌ {A = ℕ} 0 1 = cc in clash z
+told_good : (v : Verdict) (x r : Reading) → answer_of v x ≡ Ok r → (v ≡ no_fault) × (x ≡ r)
+told_good (Ok done) x r e = (refl, cc)
+told_good (Err f) x r e = let z : ◌≡◌ {A = ℕ} 0 1 = cc in clash z
 
 even_ones : (s : List ℕ) → is_odd s ≡ false → ones_from 1 parity_place s % 2 ≡ 0
 unfolding is_odd
 even_ones s e = eqb-true _ 0 (not-false _ e)
 
-pub accepted : (base : ℕ) (s : List ℕ) (r : Reading) → read_frame base s ≡ Time r → Accepted base s r
+pub accepted : (base : ℕ) (s : List ℕ) (r : Reading) → read_frame base s ≡ Ok r → Accepted base s r
 unfolding read_frame fault_in
 accepted base s r e =
     let v = sums_of frame_pulses s in

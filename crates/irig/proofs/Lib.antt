@@ -1,9 +1,9 @@
 pub mod Each
-pub mod AmountLaws
 pub mod OffsetLaws
 pub mod CarriedLaws
 pub mod GroupLaws
 pub mod FieldLaws
+pub mod StepLaws
 pub mod ValueLaws
 pub mod AgainLaws
 pub mod ParityLaws

@@ -1,4 +1,6 @@
 -- The code and place of each refusal: the first of the order of the codes whose condition holds, and its lowest place.
+use Rattle.reading.specs.Faults.{Verdict, no_fault}
+use Rattle.std.specs.Prelude.{Err, Ok}
 use mathlib.Core.List.{List, []}
 use mathlib.Core.Path.{◌≡◌, refl}
 use Prim.Native.Nat.{ℕ}
@@ -6,8 +8,6 @@ use lib.Dec.{ltb}
 use Rattle.reading.specs.declared.Reading.{Reading}
 use Rattle.reading.specs.declared.Refusal.{Refusal}
 use Rattle.reading.specs.declared.Fault.TheVariants.{Length, NotCarried}
-use Rattle.reading.specs.declared.Verdict.{Verdict}
-use Rattle.reading.specs.declared.Verdict.TheVariants.{Good, Bad}
 use Rattle.reading.specs.Writing.{written_of}
 use Rattle.reading.specs.Refusals.{Objection, Owed}
 use Rattle.reading.specs.Objections.{check_objections, sound_objections, reading_objections, WrittenOwed}
@@ -23,8 +23,8 @@ use Rattle.irig.specs.Writing.{carried_of, write_fault}
 use Rattle.irig.specs.Objections.{said_objections, read_objections, write_objections, read_codes, write_codes, AnswerOwed}
 
 answer_owed : (l : List Objection) (codes : List ℕ) (v : Verdict) (r : Reading) → VerdictOwed l codes v → AnswerOwed l codes (answer_of v r)
-answer_owed l codes Good r p = p
-answer_owed l codes (Bad x) r p = p
+answer_owed l codes (Ok done) r p = p
+answer_owed l codes (Err x) r p = p
 
 read_through : (base : ℕ) (s : List ℕ) → Through (read_objections base s) (fault_in base s)
 unfolding read_objections said_objections fault_in values_fault fields_fault
@@ -40,7 +40,7 @@ write_through : (base : ℕ) (r : Reading) (room : ℕ) → Through (write_objec
 unfolding write_objections write_fault carried_of
 write_through base r room =
     judged (ltb room frame_length) Length 1 0 _ _ refl refl
-    (one_then_other (checked_through base r) (judged (odd_quarter r.offset.0) NotCarried 11 0 [] Good refl refl none))
+    (one_then_other (checked_through base r) (judged (odd_quarter r.offset.0) NotCarried 11 0 [] no_fault refl refl none))
 
 pub write_owed : (base : ℕ) (r : Reading) (room : ℕ)
     → WrittenOwed (write_objections base r room) write_codes (written_of (write_fault base r room) frame_length)

@@ -1,4 +1,5 @@
 -- The first refusals of the reader: a wrong length, and the lowest place whose byte is not allowed there.
+use Rattle.std.specs.Prelude.{Err}
 use mathlib.Core.Path.{◌≡◌, ◌∙◌}
 use mathlib.Core.Bool.{true, false}
 use mathlib.Core.List.{List}
@@ -16,7 +17,6 @@ use Rattle.pulses.proofs.EntryLaws.{fixed_allowed}
 use Rattle.pulses.proofs.ScanLaws.{scan_good, scan-sums}
 use Rattle.irig_table.specs.Table.{frame_pulses}
 use Rattle.irig_table.proofs.TableLaws.{frame_length_lem}
-use Rattle.irig.specs.declared.Answer.TheVariants.{No}
 use Rattle.irig.specs.Meaning.{reading_of}
 use Rattle.irig.specs.Faults.{frame_length, is_odd, values_fault, fault_in, answer_of, read_frame}
 
@@ -31,16 +31,16 @@ module _ (s : List ℕ) (x : Scan) (e : x ≡ scan_of frame_pulses s) where
 
 -- ---- the reader, answer by answer
 
-pub wrong_length : (base : ℕ) (s : List ℕ) → (length s ≡ frame_length → ⊥) → read_frame base s ≡ No (number Length)
+pub wrong_length : (base : ℕ) (s : List ℕ) → (length s ≡ frame_length → ⊥) → read_frame base s ≡ Err (number Length)
 unfolding read_frame fault_in
 wrong_length base s d = rw (ne_eqb (length s) frame_length d)
 
-pub other_base_lem : (base : ℕ) (s : List ℕ) → length s ≡ frame_length → is_base base ≡ false → read_frame base s ≡ No (number OtherBase)
+pub other_base_lem : (base : ℕ) (s : List ℕ) → length s ≡ frame_length → is_base base ≡ false → read_frame base s ≡ Err (number OtherBase)
 unfolding read_frame fault_in
 other_base_lem base s long b = rw (eq-eqb (length s) frame_length long, b)
 
 module _ (base : ℕ) (s : List ℕ) (long : length s ≡ frame_length) (based : is_base base ≡ true) where
-  pub bad_pulse : good_pulses frame_pulses s < frame_length → read_frame base s ≡ No (number (Byte (good_pulses frame_pulses s)))
+  pub bad_pulse : good_pulses frame_pulses s < frame_length → read_frame base s ≡ Err (number (Byte (good_pulses frame_pulses s)))
   unfolding read_frame fault_in
   bad_pulse h = rw (eq-eqb (length s) frame_length long, based, lt-ltb (good_pulses frame_pulses s) frame_length h)
 
@@ -52,13 +52,13 @@ module _ (base : ℕ) (s : List ℕ) (long : length s ≡ frame_length) (based :
 
   -- "for code 2 it is the lowest bad place"
   pub lowest_bad_place : (i : ℕ) → i < frame_length → ((j : ℕ) → j < i → allowed_at frame_pulses s j ≡ true) → allowed_at frame_pulses s i ≡ false
-      → read_frame base s ≡ No (number (Byte i))
+      → read_frame base s ≡ Err (number (Byte i))
   lowest_bad_place i h before here =
       let e = first_bad frame_pulses s i (omega (arith, frame_length_lem)) (omega arith) before here in
       rw e at (bad_pulse (omega arith))
 
   -- the first of all: a frame begins with a mark
-  pub no_mark : (get_or s 0 0 ≡ 2 → ⊥) → read_frame base s ≡ No (number (Byte 0))
+  pub no_mark : (get_or s 0 0 ≡ 2 → ⊥) → read_frame base s ≡ Err (number (Byte 0))
   unfolding frame_pulses group_of
   no_mark d =
       lowest_bad_place 0 (omega arith) (λ j h. absurd (omega arith))

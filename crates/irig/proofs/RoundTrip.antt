@@ -1,5 +1,6 @@
 -- What document 01 demands of the IEEE 1344 frame, for any base year: writing and reading are inverse, a frame is accepted
 -- exactly where it is the frame of a reading that its writer carries, and such a reading is stamped or refused by 12.
+use Rattle.std.specs.Prelude.{Err, Ok}
 use mathlib.Core.Path.{◌≡◌, refl, sym, ap, ◌∙◌}
 use mathlib.Core.Bool.{Bool, true, false}
 use mathlib.Core.List.{List, ◌++◌}
@@ -10,11 +11,8 @@ use lib.Dec.{ltb}
 use lib.IntN.{ℤ, pos}
 use lib.ListN.{length, get_or, take, drop}
 use Rattle.reading.specs.declared.Reading.{Reading}
-use Rattle.reading.specs.declared.Verdict.TheVariants.{Good}
 use Rattle.reading.specs.declared.Fault.TheVariants.{OutsideYears}
-use Rattle.reading.specs.declared.Stamp.TheVariants.{Refused}
-use Rattle.reading.specs.declared.Written.TheVariants.{Length}
-use Rattle.reading.specs.Faults.{number}
+use Rattle.reading.specs.Faults.{number, no_fault}
 use Rattle.reading.specs.Writing.{written_of, filled}
 use Rattle.reading.specs.Offset.{unit, east}
 use Rattle.reading.specs.Universal.{utc_of}
@@ -27,7 +25,6 @@ use Rattle.pulses.proofs.EntryLaws.{pulse_data}
 use Rattle.pulses.proofs.RowLaws.{pulse_at_lem}
 use Rattle.irig_table.specs.Table.{frame_pulses}
 use Rattle.irig_table.proofs.TableLaws.{frame_length_lem}
-use Rattle.irig.specs.declared.Answer.TheVariants.{Time}
 use Rattle.irig.specs.Faults.{frame_length, sign_place, read_frame}
 use Rattle.irig.specs.Writing.{groups_of, values_of, parity_of, frame_of, carried_of, write_fault}
 use Rattle.irig.proofs.OffsetLaws.{minus_ahead}
@@ -36,20 +33,20 @@ use Rattle.irig.proofs.WriteLaws.{room_enough, writable, written_frame, front}
 use Rattle.irig.proofs.FrameLaws.{frame_read, accepted, reading_is_carried, frame_again}
 
 -- WRITE, READ: what is written, into any buffer, is read as what was written
-pub written_reads : (base : ℕ) (r : Reading) (buffer : List ℕ) (n : ℕ) → written_of (write_fault base r (length buffer)) frame_length ≡ Length n
-    → read_frame base (take n (filled (write_fault base r (length buffer)) (frame_of r) buffer)) ≡ Time r
+pub written_reads : (base : ℕ) (r : Reading) (buffer : List ℕ) (n : ℕ) → written_of (write_fault base r (length buffer)) frame_length ≡ Ok n
+    → read_frame base (take n (filled (write_fault base r (length buffer)) (frame_of r) buffer)) ≡ Ok r
 written_reads base r buffer n e =
     let w = length_is (write_fault base r (length buffer)) frame_length n e in
     let c = room_enough base r (length buffer) w.0 in
     rw (w.1, front base r buffer w.0) (frame_read base r (carried_is base r c.1))
 
-module _ (base : ℕ) (s : List ℕ) (r : Reading) (e : read_frame base s ≡ Time r) where
+module _ (base : ℕ) (s : List ℕ) (r : Reading) (e : read_frame base s ≡ Ok r) where
   -- a reading that is read is carried by the writer
-  pub accepted_carried : carried_of base r ≡ Good
+  pub accepted_carried : carried_of base r ≡ no_fault
   accepted_carried = is_carried base r (reading_is_carried base s r (accepted base s r e))
 
   -- and so passes the checks that every writer and stamping share
-  pub accepted_checked : checked_of base r ≡ Good
+  pub accepted_checked : checked_of base r ≡ no_fault
   accepted_checked = (carried_parts base r accepted_carried).0
 
   -- the frame is that of its reading
@@ -58,33 +55,33 @@ module _ (base : ℕ) (s : List ℕ) (r : Reading) (e : read_frame base s ≡ Ti
 
   -- READ, WRITE: what is read is written again, byte for byte, into any buffer that has room
   pub read_writes : (buffer : List ℕ) → length s ≤ length buffer
-      → (written_of (write_fault base r (length buffer)) frame_length ≡ Length (length s))
+      → (written_of (write_fault base r (length buffer)) frame_length ≡ Ok (length s))
       × (filled (write_fault base r (length buffer)) (frame_of r) buffer ≡ s ++ drop (length s) buffer)
   read_writes buffer h =
       let long : length s ≡ frame_length = (accepted base s r e).long in
       let w = written_frame base r buffer (writable base r (length buffer) (omega arith) accepted_carried) in
-      (w.0 ∙ ap Length (sym long), w.1 ∙ rw (accepted_frame, long))
+      (w.0 ∙ ap Ok (sym long), w.1 ∙ rw (accepted_frame, long))
 
   -- stamping refuses it by 12 alone
-  pub accepted_stamp : (stamp_of base r ≡ stamp_is (stamp_number (utc_of r) r.second)) ⊎ (stamp_of base r ≡ Refused (number OutsideYears))
+  pub accepted_stamp : (stamp_of base r ≡ stamp_is (stamp_number (utc_of r) r.second)) ⊎ (stamp_of base r ≡ Err (number OutsideYears))
   accepted_stamp = go (has_stamp (utc_of r).date.year) refl
     where
       go : (b : Bool) → has_stamp (utc_of r).date.year ≡ b
-          → (stamp_of base r ≡ stamp_is (stamp_number (utc_of r) r.second)) ⊎ (stamp_of base r ≡ Refused (number OutsideYears))
+          → (stamp_of base r ≡ stamp_is (stamp_number (utc_of r) r.second)) ⊎ (stamp_of base r ≡ Err (number OutsideYears))
       go true y = inl (is_stamp base r (stamp_number (utc_of r) r.second) (record { checked = accepted_checked; year = y; value = refl }))
       go false y = inr (refused_by_12 base r accepted_checked y)
 
 -- EXACTLY: the reader accepts the frames of the readings that the writer carries, and no others
 pub exactly : (base : ℕ) (s : List ℕ) (r : Reading)
-    → (read_frame base s ≡ Time r → (carried_of base r ≡ Good) × (s ≡ frame_of r))
-    × ((carried_of base r ≡ Good) × (s ≡ frame_of r) → read_frame base s ≡ Time r)
+    → (read_frame base s ≡ Ok r → (carried_of base r ≡ no_fault) × (s ≡ frame_of r))
+    × ((carried_of base r ≡ no_fault) × (s ≡ frame_of r) → read_frame base s ≡ Ok r)
 exactly base s r = (
   λ e. (accepted_carried base s r e, sym (accepted_frame base s r e)),
   λ p. rw p.1 (frame_read base r (carried_is base r p.0)),
 )
 
 -- no two frames say one reading
-pub one_frame : (base : ℕ) (s t : List ℕ) (r : Reading) → read_frame base s ≡ Time r → read_frame base t ≡ Time r → s ≡ t
+pub one_frame : (base : ℕ) (s t : List ℕ) (r : Reading) → read_frame base s ≡ Ok r → read_frame base t ≡ Ok r → s ≡ t
 one_frame base s t r e f = sym (accepted_frame base s r e) ∙ accepted_frame base t r f
 
 -- ---- the sign

@@ -1,5 +1,6 @@
 -- Three stand-ins that document 01 names break the contracts: a reader that refuses everything, a reader that gives one
 -- fixed time, and a writer that leaves the buffer as found. Each speaks of any function that meets the contract's equation.
+use Rattle.std.specs.Prelude.{Err, Ok}
 use mathlib.Core.Path.{◌≡◌, refl, sym, ap, ◌∙◌}
 use mathlib.Core.List.{List, ◌++◌}
 use Prim.Native.Nat.{ℕ}
@@ -13,10 +14,8 @@ use Rattle.reading.specs.Years.{usual_base as base}
 use Rattle.reading.specs.Offset.{west, east, offset_good}
 use Rattle.pulses.specs.Row.{group_of, pulse_of, pulse_for, row}
 use Rattle.irig_table.specs.Table.{frame_pulses}
-use Rattle.irig.specs.declared.Answer.{Answer}
-use Rattle.irig.specs.declared.Answer.TheVariants.{Time, No}
 use Rattle.irig.specs.Offset.{halves_of, odd_quarter}
-use Rattle.irig.specs.Faults.{frame_length, read_frame}
+use Rattle.irig.specs.Faults.{frame_length, read_frame, Answer}
 use Rattle.irig.specs.Writing.{frame_of, write_fault}
 use Rattle.irig.proofs.CarriedLaws.{carried_is}
 use Rattle.irig.proofs.WriteLaws.{writable, written_frame}
@@ -28,22 +27,22 @@ different z = omega arith
 
 -- two readings that are written and read, at UTC and half an hour ahead of it
 module _ (read : List ℕ → Answer) (contract : (s : List ℕ) → read s ≡ read_frame base s) where
-  at_utc : read (frame_of (at_offset (pos 0))) ≡ Time (at_offset (pos 0))
+  at_utc : read (frame_of (at_offset (pos 0))) ≡ Ok (at_offset (pos 0))
   unfolding offset_good west east odd_quarter
   at_utc = contract _ ∙ frame_read base (at_offset (pos 0)) (carried_is base (at_offset (pos 0)) (at_offset_carried (pos 0) refl refl))
 
-  ahead : read (frame_of (at_offset (pos 2))) ≡ Time (at_offset (pos 2))
+  ahead : read (frame_of (at_offset (pos 2))) ≡ Ok (at_offset (pos 2))
   unfolding offset_good west east odd_quarter
   ahead = contract _ ∙ frame_read base (at_offset (pos 2)) (carried_is base (at_offset (pos 2)) (at_offset_carried (pos 2) refl refl))
 
-  pub refuses-all : ((s : List ℕ) → (x : Refusal) × (read s ≡ No x)) → ⊥
+  pub refuses-all : ((s : List ℕ) → (x : Refusal) × (read s ≡ Err x)) → ⊥
   refuses-all all =
       let e = (all (frame_of (at_offset (pos 0)))).1 in
       let a = at_utc in
       let z : ◌≡◌ {A = ℕ} 0 1 = cc in
       different z
 
-  pub one_fixed_time : (r : Reading) → ((s : List ℕ) (x : Reading) → read s ≡ Time x → x ≡ r) → ⊥
+  pub one_fixed_time : (r : Reading) → ((s : List ℕ) (x : Reading) → read s ≡ Ok x → x ≡ r) → ⊥
   one_fixed_time r all =
       different (ap (λ (x : Reading). halves_of x.offset.0) (all _ _ at_utc ∙ sym (all _ _ ahead)))
 

@@ -8,7 +8,7 @@ use lib.ListN.{get_or}
 use Rattle.calendar.specs.Calendar.{leap_year, day_of_year}
 use Rattle.calendar.proofs.MonthLaws.{year_least}
 use Rattle.calendar.proofs.DateLaws.{Real, real}
-use Rattle.calendar.proofs.TableLaws.{within, year_has, month_day_of}
+use Rattle.calendar.proofs.DayOfYearLaws.{within, year_has, month_day_of}
 use Rattle.reading.specs.declared.Reading.{Reading}
 use Rattle.reading.specs.Years.{year_of}
 use Rattle.reading.specs.Offset.{opposite, local_of}

@@ -1,4 +1,5 @@
 -- Cases 6, 7 and 10 of document 01 with the offsets that L9 doubles, computed by the written definitions.
+use Rattle.std.specs.Prelude.{Err, Ok}
 use mathlib.Core.Bool.{true, false, cond}
 use mathlib.Core.List.{[], ◌∷◌, map}
 use mathlib.Core.Path.{◌≡◌, refl}
@@ -21,11 +22,8 @@ use Rattle.calendar.specs.Calendar.{
 }
 use Rattle.laws.specs.Tests.{among}
 use Rattle.reading.specs.declared.Reading.{Reading}
-use Rattle.reading.specs.declared.Verdict.TheVariants.{Good}
-use Rattle.reading.specs.declared.Written.{Written}
-use Rattle.reading.specs.declared.Written.TheVariants.{Length, No as Unwritten}
-use Rattle.reading.specs.Faults.{number}
-use Rattle.reading.specs.Writing.{written_of}
+use Rattle.reading.specs.Faults.{number, no_fault}
+use Rattle.reading.specs.Writing.{written_of, Written}
 use Rattle.reading.specs.Years.{usual_base as base, in_hundred, year_of, is_base, first_year}
 use Rattle.reading.specs.Offset.{west, east, offset_good, local_of}
 use Rattle.reading.specs.Leap.{sixty_bad}
@@ -34,8 +32,6 @@ use Rattle.pulses.specs.Row.{group_of, weight_of, pulse_allowed, pulse_of, digit
 use Rattle.irig_table.specs.Table.{frame_pulses}
 use Rattle.irig_table.specs.Paper.{mark_due}
 use Rattle.irig_table.proofs.WorkedFrame.{ones}
-use Rattle.irig.specs.declared.Answer.{Answer}
-use Rattle.irig.specs.declared.Answer.TheVariants.{Time, No}
 use Rattle.irig.specs.Offset.{odd_quarter}
 use Rattle.irig.specs.Meaning.{
   second_in,
@@ -52,7 +48,7 @@ use Rattle.irig.specs.Meaning.{
   second_of_day_wrong,
   offset_bad,
 }
-use Rattle.irig.specs.Faults.{frame_length, is_odd, fields_fault, values_fault, fault_in, read_frame}
+use Rattle.irig.specs.Faults.{frame_length, is_odd, fields_fault, values_fault, fault_in, read_frame, Answer}
 use Rattle.irig.specs.Writing.{groups_of, values_of, parity_of, frame_of, carried_of, write_fault}
 use Rattle.irig.proofs.CarriedLaws.{parts_carried}
 
@@ -83,12 +79,12 @@ case_6 = refl
 -- ---- which code the reader and the writer refuse by, 0 where they do not
 
 abbrev pub read_code : Answer → ℕ
-read_code (Time r) = 0
-read_code (No x) = x.code
+read_code (Ok r) = 0
+read_code (Err x) = x.code
 
 abbrev pub written_code : Written → ℕ
-written_code (Length n) = 0
-written_code (Unwritten x) = x.code
+written_code (Ok n) = 0
+written_code (Err x) = x.code
 
 -- case 6; case 7: the same with pulse 84 cleared; case 10: 14 and 14 1/2 hours ahead of UTC, 12 and 12 1/2 behind it
 pub cases_read :
@@ -118,9 +114,9 @@ cases_written = refl
 
 -- ---- a reading at any offset that one may have passes the checks, and at no odd quarter it is written and read
 
-at_offset_checked : (z : ℤ) → offset_good z ≡ true → checked_of base (at_offset z) ≡ Good
+at_offset_checked : (z : ℤ) → offset_good z ≡ true → checked_of base (at_offset z) ≡ no_fault
 unfolding checked_of time_bad date_bad in_hundred is_date is_month is_day last_day days_in leap_year sixty_bad first_year is_base sound_of
 at_offset_checked z e = rw e
 
-pub at_offset_carried : (z : ℤ) → offset_good z ≡ true → odd_quarter z ≡ false → carried_of base (at_offset z) ≡ Good
+pub at_offset_carried : (z : ℤ) → offset_good z ≡ true → odd_quarter z ≡ false → carried_of base (at_offset z) ≡ no_fault
 at_offset_carried z e f = parts_carried base (at_offset z) (at_offset_checked z e) f

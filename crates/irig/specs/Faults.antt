@@ -1,17 +1,14 @@
 -- Reading an IEEE 1344 frame: its first fault in the order of the codes, each with the place of its field, and the answer.
-use Rattle.std.specs.Prelude.{Bool, not, ◌||◌, List, ℕ, ◌%◌, eqb, ltb, length}
+use Rattle.reading.specs.declared.Refusal.{Refusal}
+use Rattle.std.specs.Prelude.{Bool, not, ◌||◌, List, ℕ, ◌%◌, eqb, ltb, length, Err, Ok, Result}
 use Rattle.reading.specs.declared.Reading.{Reading}
-use Rattle.reading.specs.declared.Verdict.{Verdict}
-use Rattle.reading.specs.declared.Verdict.TheVariants.{Good, Bad}
 use Rattle.reading.specs.declared.Fault.TheVariants.{Length, Byte, Digit, Parity, Time, Date, SecondOfDay, Offset, LeapSecond, Deletion}
-use Rattle.reading.specs.Faults.{number, first}
+use Rattle.reading.specs.Faults.{number, first, Verdict, no_fault}
 use Rattle.reading.specs.Universal.{utc_of}
 use Rattle.reading.specs.Leap.{sixty_bad}
 use Rattle.reading.specs.Checks.{on_base, hour_bad, minute_bad, second_bad}
 use Rattle.pulses.specs.Row.{good_pulses, sums_of, ones_from, over_nine}
 use Rattle.irig_table.specs.Table.{frame_pulses, seconds, minutes, hours, days, tens_of_days, years, tens_of_years, deletion}
-use Rattle.irig.specs.declared.Answer.{Answer}
-use Rattle.irig.specs.declared.Answer.TheVariants.{Time as Told, No}
 use Rattle.irig.specs.Meaning.{is_set, second_in, minute_in, hour_in, reading_of, day_bad, second_of_day_wrong, offset_bad}
 
 -- the pulses of a frame
@@ -70,7 +67,7 @@ abbrev pub rest_fault : Bool → Bool → Bool → Bool → Bool → Verdict
 rest_fault day ofday offset leap deleted =
     first day (Date day_place)
     (first ofday (SecondOfDay second_of_day_place)
-    (first offset (Offset sign_place) (first leap (LeapSecond second_place) (first deleted (Deletion deletion_place) Good))))
+    (first offset (Offset sign_place) (first leap (LeapSecond second_place) (first deleted (Deletion deletion_place) no_fault))))
 
 -- "even parity over 1..75, marks left out" is wrong: the 75 pulses from 1 on have an odd number of ones
 unfoldable pub is_odd : List ℕ → Bool
@@ -98,10 +95,14 @@ fault_in base s =
     (first (ltb (good_pulses frame_pulses s) frame_length) (Byte (good_pulses frame_pulses s))
     (values_fault base (sums_of frame_pulses s) (is_odd s))))
 
+-- what the reader answers: the time, or why there is none
+abbrev pub Answer : Type 0
+Answer = Result Reading Refusal
+
 -- the time, or the refusal of the first fault
 abbrev pub answer_of : Verdict → Reading → Answer
-answer_of Good r = Told r
-answer_of (Bad fault) r = No (number fault)
+answer_of (Ok done) r = Ok r
+answer_of (Err fault) r = Err (number fault)
 
 -- what is read of any bytes
 unfoldable pub read_frame : ℕ → List ℕ → Answer

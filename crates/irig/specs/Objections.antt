@@ -1,7 +1,7 @@
 -- What can be wrong with an IEEE 1344 frame, and with what is to be written as one, with code and place.
 -- Conditions and codes are those of 01's table, as amended by L5, L9 and L12, a place is that of "the first byte of the lowest offending field".
 -- (Of an input of another length, code 2 may hold too: code 1 goes before it.)
-use Rattle.std.specs.Prelude.{true, not, ◌||◌, List, [], ◌∷◌, ◌++◌, ◌≡◌, ℕ, eqb, ltb, length}
+use Rattle.std.specs.Prelude.{true, not, ◌||◌, List, [], ◌∷◌, ◌++◌, ◌≡◌, ℕ, eqb, ltb, length, Err, Ok}
 use Rattle.reading.specs.declared.Reading.{Reading}
 use Rattle.reading.specs.Universal.{utc_of}
 use Rattle.reading.specs.Leap.{sixty_bad}
@@ -10,11 +10,9 @@ use Rattle.reading.specs.Refusals.{Objection, objection, quiet, Owed}
 use Rattle.reading.specs.Objections.{base_objection, reading_objections}
 use Rattle.pulses.specs.Row.{good_pulses, sums_of, over_nine}
 use Rattle.irig_table.specs.Table.{frame_pulses, seconds, minutes, hours, days, tens_of_days, years, tens_of_years, deletion}
-use Rattle.irig.specs.declared.Answer.{Answer}
-use Rattle.irig.specs.declared.Answer.TheVariants.{Time, No}
 use Rattle.irig.specs.Offset.{odd_quarter}
 use Rattle.irig.specs.Meaning.{is_set, second_in, minute_in, hour_in, reading_of, day_bad, second_of_day_wrong, offset_bad}
-use Rattle.irig.specs.Faults.{is_odd}
+use Rattle.irig.specs.Faults.{is_odd, Answer}
 
 -- the pulses s, where their groups say the values v
 unfoldable pub said_objections : ℕ → List ℕ → List ℕ → List Objection
@@ -55,5 +53,5 @@ write_codes = 1 ∷ 19 ∷ 15 ∷ 16 ∷ 17 ∷ 8 ∷ 9 ∷ 11 ∷ []
 
 -- what is promised of an answer: where a time is told nothing is objected, and a refusal is the one to give
 abbrev pub AnswerOwed : List Objection → List ℕ → Answer → Type 0
-AnswerOwed objections codes (Time r) = quiet objections ≡ true
-AnswerOwed objections codes (No x) = Owed objections codes x
+AnswerOwed objections codes (Ok r) = quiet objections ≡ true
+AnswerOwed objections codes (Err x) = Owed objections codes x

@@ -2,10 +2,8 @@
 use Rattle.std.specs.Prelude.{List, [], ◌∷◌, ℕ, ◌/◌, ◌%◌, ltb}
 use Rattle.calendar.specs.Calendar.{day_of_year}
 use Rattle.reading.specs.declared.Reading.{Reading}
-use Rattle.reading.specs.declared.Verdict.{Verdict}
-use Rattle.reading.specs.declared.Verdict.TheVariants.{Good}
 use Rattle.reading.specs.declared.Fault.TheVariants.{Length, NotCarried}
-use Rattle.reading.specs.Faults.{first}
+use Rattle.reading.specs.Faults.{first, Verdict, no_fault}
 use Rattle.reading.specs.Writing.{and_then}
 use Rattle.reading.specs.Offset.{opposite}
 use Rattle.reading.specs.Universal.{date_of}
@@ -50,7 +48,7 @@ frame_of r = row frame_pulses (values_of r (parity_of r))
 
 -- the checks that every writer makes of a reading; then, by L9, "an odd quarter at the IEEE 1344 writer .. is 11"
 unfoldable pub carried_of : ℕ → Reading → Verdict
-carried_of base r = and_then (checked_of base r) (first (odd_quarter r.offset.0) NotCarried Good)
+carried_of base r = and_then (checked_of base r) (first (odd_quarter r.offset.0) NotCarried no_fault)
 
 -- the first fault of a writer that is given a reading and room for so many pulses
 unfoldable pub write_fault : ℕ → Reading → ℕ → Verdict

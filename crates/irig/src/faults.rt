@@ -1,20 +1,20 @@
-// What can be wrong with the values of a frame, in the order of the codes and, within a code, of the places.
-ghost use Rattle.std.specs.Prelude.{◌≡◌, not, ◌&&◌, ◌||◌, ◌<◌, eqb, length};
+// What can be wrong with the values of a frame: one check for each step of the order of the codes, and within a step the
+// lowest place first. A step works out only what it asks for.
+ghost use Rattle.std.specs.Prelude.{◌≡◌, not, ◌&&◌, ◌||◌, eqb, length};
 ghost use Rattle.calendar.specs.Calendar.{leap_year, in_year};
+ghost use Rattle.reading.specs.Faults.{no_fault};
 ghost use Rattle.reading.specs.Offset.{offset_good};
-ghost use Rattle.pulses.specs.Row.{over_nine};
 ghost use Rattle.irig_table.specs.Table.{minus, second_of_day};
-ghost use Rattle.irig.specs.Meaning.{said, is_set, Small, halves_in, reading_of, second_of_day_at};
-ghost use Rattle.irig.specs.Faults.{frame_length, digit_fault, time_fault, rest_fault, parity_fault, is_odd, fields_fault, values_fault};
+ghost use Rattle.irig.specs.Meaning.{said, is_set, halves_in, second_of_day_at};
+ghost use Rattle.irig.specs.Faults.{frame_length, parity_fault, is_odd};
+ghost use Rattle.irig.specs.Steps.{digit_step, time_step, rest_step};
 
-use super::fields::{
-    DAYS, DELETION, HOURS, MINUS, MINUTES, SECOND_OF_DAY, SECONDS, TENS_OF_DAYS, TENS_OF_YEARS,
-    YEARS, day_in, halves_in, is_set, second_of_day,
-};
-use calendar::days::year_length;
+use super::fields::{Sums, second_of_day};
+use calendar::days::in_year;
 use calendar::months::is_leap;
+use irig_table::groups;
 use reading::checks::{hour_bad, leap_second_bad, minute_bad, second_bad};
-use reading::{Fault, LocalMinusUtc, Reading, Verdict};
+use reading::{Fault, LocalMinusUtc, Reading};
 
 // ---- the first pulse of each field
 
@@ -36,92 +36,11 @@ pub(crate) const PARITY_PLACE: usize = 75;
 
 const SECOND_OF_DAY_PLACE: usize = 80;
 
-// ---- the faults of one code after the other
-
-fn digit_fault(
-    second: bool,
-    minute: bool,
-    hour: bool,
-    day: bool,
-    year: bool,
-    rest: Verdict,
-) -> Verdict
-    ensures { result ≡ digit_fault second minute hour day year rest }
-{
-    if second {
-        return Verdict::Bad(Fault::Digit(SECOND_PLACE));
-    }
-    if minute {
-        return Verdict::Bad(Fault::Digit(MINUTE_PLACE));
-    }
-    if hour {
-        return Verdict::Bad(Fault::Digit(HOUR_PLACE));
-    }
-    if day {
-        return Verdict::Bad(Fault::Digit(DAY_PLACE));
-    }
-    if year {
-        return Verdict::Bad(Fault::Digit(YEAR_PLACE));
-    }
-    rest
-}
-
-fn parity_fault(odd: bool, rest: Verdict) -> Verdict
-    ensures { result ≡ parity_fault odd rest }
-{
-    if odd {
-        return Verdict::Bad(Fault::Parity(PARITY_PLACE));
-    }
-    rest
-}
-
-fn time_fault(second: bool, minute: bool, hour: bool, rest: Verdict) -> Verdict
-    ensures { result ≡ time_fault second minute hour rest }
-{
-    if second {
-        return Verdict::Bad(Fault::Time(SECOND_PLACE));
-    }
-    if minute {
-        return Verdict::Bad(Fault::Time(MINUTE_PLACE));
-    }
-    if hour {
-        return Verdict::Bad(Fault::Time(HOUR_PLACE));
-    }
-    rest
-}
-
-fn rest_fault(day: bool, ofday: bool, offset: bool, leap: bool, deleted: bool) -> Verdict
-    ensures { result ≡ rest_fault day ofday offset leap deleted }
-{
-    if day {
-        return Verdict::Bad(Fault::Date(DAY_PLACE));
-    }
-    if ofday {
-        return Verdict::Bad(Fault::SecondOfDay(SECOND_OF_DAY_PLACE));
-    }
-    if offset {
-        return Verdict::Bad(Fault::Offset(SIGN_PLACE));
-    }
-    if leap {
-        return Verdict::Bad(Fault::LeapSecond(SECOND_PLACE));
-    }
-    if deleted {
-        return Verdict::Bad(Fault::Deletion(DELETION_PLACE));
-    }
-    Verdict::Good
-}
-
 // ---- the conditions
 
-fn over_nine(v: [u32; 32], group: usize) -> bool
-    requires { group < 32 }
-    ensures { result ≡ over_nine v group }
-{
-    9 < v[group]
-}
-
 // The ones among the pulses 1 to 75, counted in two packed words.
-pub(crate) fn is_odd(s: &[u8]) -> bool
+#[tactic(auto, using(pulses::proofs::OnesLaws::ones_of_part), unfolding(crate::specs::Faults::is_odd))]
+fn is_odd(s: &[u8]) -> bool
     requires { length s.now ≡ frame_length }
     ensures { result ≡ is_odd s.now }
 {
@@ -131,55 +50,87 @@ pub(crate) fn is_odd(s: &[u8]) -> bool
 fn day_bad(year: u16, day: u16) -> bool
     ensures { result ≡ not (in_year (leap_year year) day) }
 {
-    !((1 <= day) & (day <= year_length(is_leap(year))))
+    !in_year(is_leap(year), day)
 }
 
-fn second_of_day_wrong(v: [u32; 32], r: Reading) -> bool
-    ensures { result ≡ not (eqb (said v second_of_day) (second_of_day_at r.hour r.minute r.second)) }
+fn second_of_day_wrong(sums: &Sums, r: Reading) -> bool
+    ensures { result ≡ not (eqb (said sums.now.of_group second_of_day) (second_of_day_at r.hour r.minute r.second)) }
 {
-    v[SECOND_OF_DAY] != second_of_day(r)
+    sums.of_group[groups::SECOND_OF_DAY] != second_of_day(r)
 }
 
-fn offset_bad(v: [u32; 32], offset: LocalMinusUtc) -> bool
-    requires { Small v }
-    ensures { result ≡ (is_set v minus && eqb (halves_in v) 0 || not (offset_good offset.0)) }
+fn offset_bad(sums: &Sums, offset: LocalMinusUtc) -> bool
+    ensures { result ≡ (is_set sums.now.of_group minus && eqb (halves_in sums.now.of_group) 0 || not (offset_good offset.0)) }
 {
-    is_set(v, MINUS) & (halves_in(v) == 0) | !offset.is_good()
+    sums.is_set(groups::MINUS) & (sums.half_hours() == 0) | !offset.is_good()
 }
 
-// ---- the first fault
+// ---- the checks, one code after the other
 
-fn fields_fault(base: u16, v: [u32; 32], r: Reading) -> Verdict
-    requires small { Small v }
-    requires r_value { r ≡ reading_of base v }
-    ensures { result ≡ fields_fault base v }
+pub(crate) fn digit_fault(sums: &Sums) -> Result<(), Fault>
+    ensures { result ≡ digit_step sums.now.of_group }
 {
-    let rest = rest_fault(
-        day_bad(r.year, day_in(v)),
-        second_of_day_wrong(v, r),
-        offset_bad(v, r.offset),
-        leap_second_bad(r),
-        is_set(v, DELETION),
-    );
-    time_fault(
-        second_bad(r.second),
-        minute_bad(r.minute),
-        hour_bad(r.hour),
-        rest,
-    )
+    if sums.over_nine(groups::SECONDS) {
+        return Err(Fault::Digit(SECOND_PLACE));
+    }
+    if sums.over_nine(groups::MINUTES) {
+        return Err(Fault::Digit(MINUTE_PLACE));
+    }
+    if sums.over_nine(groups::HOURS) {
+        return Err(Fault::Digit(HOUR_PLACE));
+    }
+    if sums.over_nine(groups::DAYS) | sums.over_nine(groups::TENS_OF_DAYS) {
+        return Err(Fault::Digit(DAY_PLACE));
+    }
+    if sums.over_nine(groups::YEARS) | sums.over_nine(groups::TENS_OF_YEARS) {
+        return Err(Fault::Digit(YEAR_PLACE));
+    }
+    Ok(())
 }
 
-pub(crate) fn values_fault(base: u16, v: [u32; 32], r: Reading, odd: bool) -> Verdict
-    requires small { Small v }
-    requires r_value { r ≡ reading_of base v }
-    ensures { result ≡ values_fault base v odd }
+pub(crate) fn parity_fault(s: &[u8]) -> Result<(), Fault>
+    requires { length s.now ≡ frame_length }
+    ensures { result ≡ parity_fault (is_odd s.now) no_fault }
 {
-    digit_fault(
-        over_nine(v, SECONDS),
-        over_nine(v, MINUTES),
-        over_nine(v, HOURS),
-        over_nine(v, DAYS) | over_nine(v, TENS_OF_DAYS),
-        over_nine(v, YEARS) | over_nine(v, TENS_OF_YEARS),
-        parity_fault(odd, fields_fault(base, v, r)),
-    )
+    if is_odd(s) {
+        return Err(Fault::Parity(PARITY_PLACE));
+    }
+    Ok(())
+}
+
+pub(crate) fn time_fault(r: Reading) -> Result<(), Fault>
+    ensures { result ≡ time_step r }
+{
+    if second_bad(r.second) {
+        return Err(Fault::Time(SECOND_PLACE));
+    }
+    if minute_bad(r.minute) {
+        return Err(Fault::Time(MINUTE_PLACE));
+    }
+    if hour_bad(r.hour) {
+        return Err(Fault::Time(HOUR_PLACE));
+    }
+    Ok(())
+}
+
+// Of the reading that the sums say.
+pub(crate) fn rest_fault(sums: &Sums, r: Reading) -> Result<(), Fault>
+    ensures { result ≡ rest_step sums.now.of_group r }
+{
+    if day_bad(r.year, sums.day()) {
+        return Err(Fault::Date(DAY_PLACE));
+    }
+    if second_of_day_wrong(sums, r) {
+        return Err(Fault::SecondOfDay(SECOND_OF_DAY_PLACE));
+    }
+    if offset_bad(sums, r.offset) {
+        return Err(Fault::Offset(SIGN_PLACE));
+    }
+    if leap_second_bad(r) {
+        return Err(Fault::LeapSecond(SECOND_PLACE));
+    }
+    if sums.is_set(groups::DELETION) {
+        return Err(Fault::Deletion(DELETION_PLACE));
+    }
+    Ok(())
 }

@@ -5,22 +5,22 @@ ghost use Rattle.irig.specs.Writing.{groups_of, values_of, frame_of, write_fault
 
 use super::Ieee1344;
 use super::faults::PARITY_PLACE;
-use super::fields::{second_of_day, wide};
+use super::fields::second_of_day;
 use super::offset::{halves_of, is_minus, odd_quarter};
-use calendar::Date;
 use calendar::days::day_of_year;
 use pulses::bit;
 use reading::checks::checked;
-use reading::{Fault, Reading, Verdict};
+use reading::{Fault, Reading};
 
 // The value of each group; the parity's is 0.
+#[tactic(auto, unfolding(crate::specs::Writing::groups_of))]
 fn groups_of(r: Reading, day: u32, minus: u32, halves: u32) -> [u32; 32]
     ensures { result ≡ groups_of r day minus halves 0 }
 {
-    let second = wide(r.second);
-    let minute = wide(r.minute);
-    let hour = wide(r.hour);
-    let year = r.year as u32;
+    let second = u32::from(r.second);
+    let minute = u32::from(r.minute);
+    let hour = u32::from(r.hour);
+    let year = u32::from(r.year);
     [
         0,
         0,
@@ -43,7 +43,7 @@ fn groups_of(r: Reading, day: u32, minus: u32, halves: u32) -> [u32; 32]
         minus,
         halves / 2,
         halves % 2,
-        wide(r.quality),
+        u32::from(r.quality),
         0,
         second_of_day(r),
         0,
@@ -57,38 +57,34 @@ fn groups_of(r: Reading, day: u32, minus: u32, halves: u32) -> [u32; 32]
     ]
 }
 
+#[tactic(auto, unfolding(crate::specs::Writing::values_of))]
 fn values_of(r: Reading) -> [u32; 32]
     ensures { result ≡ values_of r 0 }
 {
-    let date = Date {
-        year: r.year,
-        month: r.month,
-        day: r.day,
-    };
     let offset = r.offset;
     let added = offset.added();
-    let day = day_of_year(date) as u32;
+    let day = u32::from(day_of_year(r.date()));
     groups_of(r, day, bit(is_minus(added)), halves_of(added))
 }
 
-pub(crate) fn write_fault(base: u16, r: Reading, room: usize) -> Verdict
+#[tactic(auto, unfolding(crate::specs::Writing::write_fault, crate::specs::Writing::carried_of))]
+pub(crate) fn write_fault(base: u16, r: Reading, room: usize) -> Result<(), Fault>
     ensures { result ≡ write_fault base r room }
 {
     if room < Ieee1344::LENGTH {
-        return Verdict::Bad(Fault::Length);
+        return Err(Fault::Length);
     }
-    if let Verdict::Bad(fault) = checked(base, r) {
-        return Verdict::Bad(fault);
-    }
+    checked(base, r)?;
     // Last: an offset out of range is 8, although it may be odd.
     let offset = r.offset;
     if odd_quarter(offset) {
-        return Verdict::Bad(Fault::NotCarried);
+        return Err(Fault::NotCarried);
     }
-    Verdict::Good
+    Ok(())
 }
 
 // The frame at the start of `out`: laid with parity 0, whose place then gets the parity of the others.
+#[tactic(auto, using(crate::proofs::ParityLaws::mended))]
 pub(crate) fn lay_frame(out: &mut [u8], r: Reading)
     requires { frame_length ≤ length out.old }
     ensures { out.new ≡ frame_of r ++ drop frame_length out.old }

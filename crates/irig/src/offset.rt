@@ -12,7 +12,7 @@ const SIZE_PER_HALF: u32 = 2;
 pub(crate) fn amount_of(minus: bool, halves: u8) -> AddedToLocal
     ensures { result ≡ record { 0 = amount_of minus halves } }
 {
-    let amount = PER_HALF * (halves as i16);
+    let amount = PER_HALF * i16::from(halves);
     if minus {
         return AddedToLocal(-amount);
     }
@@ -29,16 +29,14 @@ pub(crate) fn is_minus(a: AddedToLocal) -> bool
 pub(crate) fn halves_of(a: AddedToLocal) -> u32
     ensures { result ≡ halves_of a.0 }
 {
-    let x = a.0;
-    if x < 0 {
-        return (-(x as i32)) as u32 / SIZE_PER_HALF;
-    }
-    x as u32 / SIZE_PER_HALF
+    let amount = a.0;
+    u32::from(amount.unsigned_abs()) / SIZE_PER_HALF
 }
 
 // A frame has no pulse for a quarter hour that is left over.
+#[tactic(auto, unfolding(crate::specs::Offset::odd_quarter))]
 pub(crate) fn odd_quarter(offset: LocalMinusUtc) -> bool
     ensures { result ≡ odd_quarter offset.0 }
 {
-    (offset.west() as u32 + offset.east() as u32) % SIZE_PER_HALF != 0
+    (u32::from(offset.west()) + u32::from(offset.east())) % SIZE_PER_HALF != 0
 }

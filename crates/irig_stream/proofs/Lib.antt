@@ -1,7 +1,8 @@
 pub mod RingLaws
 pub mod StreamLaws
 pub mod FramesTold
-pub mod StandIns
 pub mod Worked
-pub mod Unique
 pub mod OwedLaws
+pub mod FormatTypes
+pub mod StandIns
+pub mod Unique

@@ -1,13 +1,16 @@
 -- Stand-ins for a pulse reader that "have to break" the contract: a fresh reader and a step function that meet the contracts of
 -- `fresh` and `step`, as the checker reads them off the source, and are run pulse by pulse, are none of them.
+use Rattle.reading.specs.Faults.{no_fault}
+use Rattle.std.specs.Prelude.{None, Ok, Some}
 use mathlib.Core.List.{List, [], ◌∷◌, ◌++◌}
 use mathlib.Core.Path.{◌≡◌, refl, ap, ◌∙◌}
 use Prim.Native.Nat.{ℕ}
+use mir.Syntax.{Dict}
+use Rattle.std.specs.declared.clone.Clone
 use native.Mathlib.Omega.{arith}
 use lib.IntN.{pos, nat_abs}
 use lib.ListN.{length, take, drop, replicate, length-drop}
 use Rattle.reading.specs.declared.Reading.{Reading}
-use Rattle.reading.specs.declared.Verdict.TheVariants.{Good}
 use Rattle.reading.specs.Years.{usual_base as base}
 use Rattle.reading.specs.Offset.{west, east, offset_good}
 use Rattle.irig.specs.Offset.{odd_quarter}
@@ -15,20 +18,15 @@ use Rattle.irig.specs.Writing.{frame_of, carried_of}
 use Rattle.irig.proofs.Worked.{at_offset, at_offset_carried}
 use Rattle.irig.proofs.WriteLaws.{length_frame}
 use Rattle.streams.specs.Stream.{answers_of, newest_of}
+use Rattle.streams.specs.declared.Stepped as of
 use Rattle.streams.specs.StandIns.{SilentEver, RestartsAtTwos, RefusesAll, RepeatsFirst, SilentAfterFirst, SilentBefore}
-use Rattle.streams.proofs.Meets.{Meets}
-use Rattle.streams.proofs.Runs.{says_owed}
-use Rattle.irig_stream.specs.declared.PulseReader.{PulseReader}
-use Rattle.irig_stream.specs.declared.Said.{Said}
-use Rattle.irig_stream.specs.declared.Said.TheVariants.{Time, Nothing}
-use Rattle.irig_stream.specs.declared.Stepped.{Stepped}
-use Rattle.irig_stream.specs.Said.{kept, unfed, owed, answers}
-use Rattle.irig_stream.proofs.StreamLaws.{fresh_says_owed}
+use Rattle.streams.proofs.Contracts as contracts
+use Rattle.irig_stream.specs.contracts.Frames.{the_row as format_row}
+use Rattle.irig_stream.specs.contracts.FramesFormat100.TheImpl.{ghosts}
+use Rattle.irig_stream.proofs.FormatTypes.{fits, format_laws, said_row, said_laws, said_copy}
+use Rattle.irig_stream.specs.Said.{PulseReader, kept, owed, Said}
+use Rattle.irig_stream.specs.Due.{due}
 use Rattle.irig_stream.proofs.FramesTold.{closes_with_mark, frame_told, mark_shared}
-use Rattle.irig_stream.proofs.PulseReader.fresh.Kinds as fresh-kinds
-use Rattle.irig_stream.proofs.PulseReader.fresh.Reads as fresh-reads
-use Rattle.irig_stream.proofs.PulseReader.step.Kinds as step-kinds
-use Rattle.irig_stream.proofs.PulseReader.step.Reads as step-reads
 
 -- two times that differ: one wall-clock time at UTC, and half an hour ahead of it
 abbrev first : Reading
@@ -37,11 +35,11 @@ first = at_offset (pos 0)
 abbrev second : Reading
 second = at_offset (pos 2)
 
-first_good : carried_of base first ≡ Good
+first_good : carried_of base first ≡ no_fault
 unfolding offset_good west east odd_quarter
 first_good = at_offset_carried (pos 0) refl refl
 
-second_good : carried_of base second ≡ Good
+second_good : carried_of base second ≡ no_fault
 unfolding offset_good west east odd_quarter
 second_good = at_offset_carried (pos 2) refl refl
 
@@ -54,27 +52,30 @@ stray = 2 ∷ replicate 8 0
 
 -- the answer is the time r
 abbrev pub Tells : Said → Reading → Type 0
-Tells said r = said ≡ Time r
+Tells said r = said ≡ Some (Ok r)
 
-never_both : {said : Said} {r : Reading} → Tells said r → said ≡ Nothing → ⊥
+never_both : {said : Said} {r : Reading} → Tells said r → said ≡ None → ⊥
 never_both t n = let z : ◌≡◌ {A = ℕ} 0 1 = cc in omega arith
 
-too_few : owed base (2 ∷ []) ≡ Nothing
+too_few : owed base (2 ∷ []) ≡ None
 unfolding owed
 too_few = refl
 
+abbrev pub Stepped : Type 0
+Stepped = of.Stepped PulseReader Said
+
 -- what a step function says after the last of the pulses that a reader is fed one by one; nothing where none came
 abbrev pub answer_by : PulseReader → (PulseReader → ℕ → Stepped) → List ℕ → Said
-answer_by fresh step pulses = newest_of Nothing (answers_of (λ s. s.reader) (λ s. s.said) step fresh pulses)
+answer_by fresh step pulses = newest_of None (answers_of (λ s. s.reader) (λ s. s.said) step fresh pulses)
 
-module _ (fresh : ℕ → PulseReader) (step : PulseReader → ℕ → Stepped)
-    (starts : Meets 0 fresh-kinds.ps fresh-kinds.r fresh-reads.Post (λ κs a. fresh a.0))
-    (steps : Meets 0 step-kinds.ps step-kinds.r step-reads.Post (λ κs a. step a.0 a.1.0)) where
+-- the contracts as they are read for this format, whatever tables of functions the checker hands on with it, which no contract reads
+module _ (dict : Dict) (clone : Clone.Ghosts Said) (clone-dict : Dict)
+    (fresh : ℕ → PulseReader) (step : PulseReader → ℕ → Stepped)
+    (starts : contracts.Starts format_row kept said_row format_laws fits said_laws said_copy ghosts dict clone clone-dict fresh)
+    (steps : contracts.Steps format_row kept said_row format_laws fits said_laws said_copy ghosts dict clone clone-dict step) where
   meets : (pulses : List ℕ) → answer_by (fresh base) step pulses ≡ owed base pulses
-  unfolding answers owed
-  meets pulses =
-      ap (λ (reader : PulseReader). answer_by reader step pulses) (starts tt (base, tt) (base, tt))
-      ∙ says_owed (λ s. s.reader) (λ s. s.said) step _ (λ reader pulse. steps tt (reader, (pulse, tt)) (reader, (pulse, tt))) (owed base) (unfed base) (fresh_says_owed base) pulses
+  unfolding owed
+  meets = contracts.says_due format_row kept said_row format_laws fits said_laws said_copy ghosts dict clone clone-dict (omega arith) base (due base) fresh step starts steps
 
   first_told : Tells (answer_by (fresh base) step (frame_of first)) first
   first_told = meets (frame_of first) ∙ frame_told base first first_good []
@@ -82,7 +83,7 @@ module _ (fresh : ℕ → PulseReader) (step : PulseReader → ℕ → Stepped)
   second_told : Tells (answer_by (fresh base) step (frame_of first ++ frame_of second)) second
   second_told = meets (frame_of first ++ frame_of second) ∙ frame_told base second second_good (frame_of first)
 
-  pub silent_ever : SilentEver (answer_by (fresh base) step) Nothing → ⊥
+  pub silent_ever : SilentEver (answer_by (fresh base) step) None → ⊥
   silent_ever silent = never_both first_told (silent (frame_of first))
 
   pub refuses-all : RefusesAll (answer_by (fresh base) step) Tells → ⊥
@@ -107,5 +108,5 @@ module _ (fresh : ℕ → PulseReader) (step : PulseReader → ℕ → Stepped)
       never_both first_told (ap (answer_by (fresh base) step) (closes_with_mark first) ∙ forgets (take 99 (frame_of first)) [] ∙ meets (2 ∷ []) ∙ too_few)
 
   -- "without keeping the older candidate alive": a stray mark nine pulses before a frame makes it miss that frame
-  pub loses_older_candidate : ((r : Reading) → answer_by (fresh base) step (stray ++ frame_of r) ≡ Nothing) → ⊥
+  pub loses_older_candidate : ((r : Reading) → answer_by (fresh base) step (stray ++ frame_of r) ≡ None) → ⊥
   loses_older_candidate misses = never_both (meets (stray ++ frame_of first) ∙ frame_told base first first_good stray) (misses first)

@@ -1,16 +1,17 @@
 -- The table that drives reader and writer is the paper's: one test that antt computes over the hundred pulses.
 use mathlib.Core.Bool.{Bool, ◌&&◌}
-use mathlib.Core.Path.{◌≡◌, sym}
+use mathlib.Core.Path.{◌≡◌}
+use native.Mathlib.Decide.{dec_le}
+use Rattle.irig_table.specs.declared.groups.TheConstants.{BY_GROUP, NO_FIELD}
 use Prim.Native.Nat.{ℕ, ◌<◌, ◌≤◌}
 use native.Mathlib.Omega.{arith}
-use lib.Dec.{T, eqb, eqb→eq, leb, leb→le}
+use lib.Dec.{T, eqb, eqb→eq}
 use lib.ListN.{get_or, get_or-eq_default}
 use Rattle.laws.specs.Tests.{below}
 use Rattle.laws.proofs.Tested.{at, and_left, and_right}
 use Rattle.pulses.specs.Row.{group_of, weight_of}
 use Rattle.irig_table.specs.declared.Pulse.{Pulse}
 use Rattle.irig_table.specs.Table.{frame_pulses}
-use Rattle.irig_table.proofs.TableLaws.{frame_length_lem}
 use Rattle.irig_table.specs.Paper.{none, fields, factors, rows, in_rows, field_of, factor_of, pulse_at}
 
 same : Pulse → Pulse → Bool
@@ -33,31 +34,32 @@ table_is_paper i h =
     let q = eqb→eq _ _ (and_right (eqb a.field b.field) (eqb a.weight b.weight) t) in
     λ j. record { field = p j; weight = q j }
 
--- ---- beyond the ends of the tables
+-- ---- what a group stands for
 
-pub beyond_frame : (i : ℕ) → 100 ≤ i → 0 ≡ get_or frame_pulses i 0
-beyond_frame i h = sym (get_or-eq_default frame_pulses 0 (omega (arith, frame_length_lem)))
+group_right : ℕ → Bool
+group_right g = eqb (get_or BY_GROUP g NO_FIELD).field (field_of g) && eqb (get_or BY_GROUP g NO_FIELD).factor (factor_of g)
 
-pub beyond_fields : (g : ℕ) → 24 ≤ g → none ≡ field_of g
-unfolding field_of
-beyond_fields g h = sym (get_or-eq_default fields none h)
+all-groups : T (below group_right 24)
+unfolding group_right field_of factor_of
+all-groups = tt
 
-pub beyond_factors : (g : ℕ) → 14 ≤ g → 1 ≡ factor_of g
-unfolding factor_of
-beyond_factors g h = sym (get_or-eq_default factors 1 h)
+known : (g : ℕ) → g < 24 → get_or BY_GROUP g NO_FIELD ≡ record { field = field_of g; factor = factor_of g }
+unfolding group_right
+known g h =
+    let a = get_or BY_GROUP g NO_FIELD in
+    let t = at group_right 24 all-groups g h in
+    let p = eqb→eq _ _ (and_left (eqb a.field (field_of g)) (eqb a.factor (factor_of g)) t) in
+    let q = eqb→eq _ _ (and_right (eqb a.field (field_of g)) (eqb a.factor (factor_of g)) t) in
+    λ j. record { field = p j; factor = q j }
 
--- within them, a factor is what the list has, and no more than a hundred
-factor_right : ℕ → Bool
-factor_right g = eqb (get_or factors g 0) (factor_of g) && leb (get_or factors g 0) 100
+unknown : (g : ℕ) → 24 ≤ g → get_or BY_GROUP g NO_FIELD ≡ record { field = field_of g; factor = factor_of g }
+unfolding field_of factor_of
+unknown g h =
+    let few : 14 ≤ g = omega arith in
+    rw (get_or-eq_default BY_GROUP NO_FIELD h, get_or-eq_default fields none h, get_or-eq_default factors 1 few)
 
-all-factors : T (below factor_right 14)
-unfolding factor_right factor_of
-all-factors = tt
-
-pub factor_is : (g : ℕ) → g ≤ 13 → (get_or factors g 0 ≡ factor_of g) × (get_or factors g 0 ≤ 100)
-unfolding factor_right
-factor_is g h =
-    let a = eqb (get_or factors g 0) (factor_of g) in
-    let b = leb (get_or factors g 0) 100 in
-    let t = at factor_right 14 all-factors g (omega arith) in
-    (eqb→eq _ _ (and_left a b t), leb→le _ _ (and_right a b t))
+pub group_is : (g : ℕ) → get_or BY_GROUP g NO_FIELD ≡ record { field = field_of g; factor = factor_of g }
+group_is g = elim (dec_le 24 g) [
+  | yes h ↦ unknown g h
+  | no h ↦ known g (omega arith)
+]

@@ -1,7 +1,7 @@
 -- The tags of a frame are its table's, each by one test that antt computes over its hundred pulses; and so its groups' sums are the parts', joined.
 use mathlib.Core.Path.{◌≡◌, refl, ap, ◌∙◌}
 use mathlib.Core.List.{List, map}
-use Prim.Native.Nat.{ℕ, ◌<◌, ◌≤◌, min}
+use Prim.Native.Nat.{ℕ, ◌+◌, ◌*◌, ◌<◌, ◌≤◌, min}
 use native.Mathlib.Omega.{arith}
 use lib.Dec.{T}
 use lib.ListN.{length, get_or, set, length-map}
@@ -13,6 +13,7 @@ use Rattle.pulses.proofs.TagLaws.{same_tags, tags_good}
 use Rattle.pulses.proofs.CellLaws.{sums_small, sums_long}
 use Rattle.pulses.proofs.BoardLaws.{tag_part, tag_weight, own_tags, tags-sums}
 use Rattle.pulses.proofs.PartLaws.{joined_part, joined_weight, joined, sums_joined, same_entry, parts-sums}
+use Rattle.irig_table.specs.declared.tags.TheConstants.{TAGS}
 use Rattle.irig_table.specs.Table.{frame_pulses, second_of_day}
 use Rattle.irig_table.specs.Tags.{upper_part, top_part, tags}
 use Rattle.irig_table.proofs.TableLaws.{frame_length_lem}
@@ -54,18 +55,38 @@ frame_sums s v e =
     sums_joined top_part second_of_day 65536 (λ z. omega arith) upper_joined upper_weight s n (joined upper_part second_of_day 256 v) upper (omega arith) (omega arith)
     ∙ parts-sums frame_pulses _ _ entries s n m (omega (arith, frame_length_lem))
 
+-- ---- the same of the column in the code
+
+pub column : TAGS ≡ tags
+unfolding tags tag_of part_of digit_at total frame_pulses group_of weight_of
+column = refl
+
+pub column_good : (s : List ℕ) (n : ℕ) → n ≡ good_pulses (map entry_of TAGS) s → n ≡ good_pulses frame_pulses s
+column_good s n e = frame_good s n (e ∙ ap (λ (t : List ℕ). good_pulses (map entry_of t) s) column)
+
+pub column_sums : (s v : List ℕ) → v ≡ tag_sums TAGS s
+    → joined top_part second_of_day 65536 (joined upper_part second_of_day 256 v) ≡ sums_of frame_pulses s
+column_sums s v e = frame_sums s v (e ∙ ap (λ (t : List ℕ). tag_sums t s) column)
+
 -- ---- the numbers on the way
 
--- the first part joined leaves the other one, and what it was joined to holds the sum
-pub joined_once : (v : List ℕ) (x : ℕ) → second_of_day < length v
-    → (get_or (set (set v second_of_day x) upper_part 0) top_part 0 ≡ get_or v top_part 0) × (get_or (set (set v second_of_day x) upper_part 0) second_of_day 0 ≡ x)
-joined_once v x h = (
-  get_or-set_other (set v second_of_day x) upper_part top_part 0 0 (λ z. omega arith) ∙ get_or-set_other v second_of_day top_part x 0 (λ z. omega arith),
-  get_or-set_other (set v second_of_day x) upper_part second_of_day 0 0 (λ z. omega arith) ∙ get_or-set_same v second_of_day x 0 h,
-)
+-- the parts of the second of the day are bytes; and the first one joined leaves the other one, and what it was joined to holds the sum
+pub record Summed (v : List ℕ) : Type 0 where
+  pub own : get_or v second_of_day 0 ≤ 255
+  pub upper : get_or v upper_part 0 ≤ 255
+  pub top : get_or v top_part 0 ≤ 255
+  pub kept : get_or (joined upper_part second_of_day 256 v) top_part 0 ≡ get_or v top_part 0
+  pub both : get_or (joined upper_part second_of_day 256 v) second_of_day 0 ≡ get_or v second_of_day 0 + 256 * get_or v upper_part 0
 
-pub part_small : (s v : List ℕ) → v ≡ tag_sums tags s → (k : ℕ) → k < groups → get_or v k 0 ≤ 255
-part_small s v e k h = rw e (sums_small tags s k h)
-
-pub parts_long : (s v : List ℕ) → v ≡ tag_sums tags s → length v ≡ groups
-parts_long s v e = ap length e ∙ sums_long tags s
+pub summed : (s v : List ℕ) → v ≡ tag_sums TAGS s → Summed v
+summed s v k =
+    let e : v ≡ tag_sums tags s = k ∙ ap (λ (t : List ℕ). tag_sums t s) column in
+    let x : ℕ = get_or v second_of_day 0 + 256 * get_or v upper_part 0 in
+    let small : (k : ℕ) → k < groups → get_or v k 0 ≤ 255 = λ k h. rw e (sums_small tags s k h) in
+    let h : second_of_day < length v = omega (arith, ap length e, sums_long tags s) in record {
+      own = small second_of_day (omega arith);
+      upper = small upper_part (omega arith);
+      top = small top_part (omega arith);
+      kept = get_or-set_other (set v second_of_day x) upper_part top_part 0 0 (λ z. omega arith) ∙ get_or-set_other v second_of_day top_part x 0 (λ z. omega arith);
+      both = get_or-set_other (set v second_of_day x) upper_part second_of_day 0 0 (λ z. omega arith) ∙ get_or-set_same v second_of_day x 0 h;
+    }

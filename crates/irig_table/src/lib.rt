@@ -1,25 +1,31 @@
-// The table of pulses of an IEEE 1344 frame, and the row of pulses that it drives.
+// The table of pulses of an IEEE 1344 frame, and the row of pulses that it drives. Each function names the table to what `pulses` does by
+// any; a trait over this table and the two of a DCF77 minute would have as many lines.
 #![tactic(auto)]
 
+pub mod groups;
 mod tags;
 
 ghost use Rattle.std.specs.Prelude.{◌≡◌, ◌<◌, ◌≤◌, get_or};
 ghost use Rattle.pulses.specs.Outline.{outline_of};
 ghost use Rattle.pulses.specs.Row.{good_pulses, sums_of, scan_of, fits_in, laid};
 ghost use Rattle.irig_table.specs.Table.{frame_pulses};
-ghost use Rattle.irig_table.specs.Paper.{field_of, factor_of, pulse_at};
+ghost use Rattle.irig_table.specs.Paper.{pulse_at};
 
-use pulses::Scan;
+use groups::group_at;
+use pulses::{Scan, UNIT, ZERO};
 use tags::TAGS;
 
-// What a pulse stands for: one of the paper's fields, and how much it weighs in it.
-#[derive(Clone, Copy)]
+// What a pulse stands for: one of the paper's fields, by its number in specs/Paper.antt, where 0 is a pulse without one, and how much it
+// weighs in it.
+#[derive(Clone, Copy, Debug, PartialEq, Eq)]
 pub struct Pulse {
     pub field: u8,
     pub weight: u32,
 }
 
-// How many pulses of a frame are good, up to the first that is not, and what each group of those says.
+// How many pulses of a frame are good, up to the first that is not, and what each group of those says. Readers go by `good` and `sums`: this
+// is kept for its contract and for `scanned_one`.
+#[tactic(auto, unfolding(crate::specs::Table::frame_pulses))]
 pub fn scanned(frame: &[u8]) -> Scan
     ensures { result ≡ scan_of frame_pulses frame.now }
 {
@@ -27,25 +33,28 @@ pub fn scanned(frame: &[u8]) -> Scan
 }
 
 // How many pulses of a frame are good, up to the first that is not.
+#[tactic(auto, using(crate::proofs::TagLaws::column_good))]
 pub fn good(frame: &[u8]) -> usize
     ensures { result ≡ good_pulses frame_pulses frame.now }
 {
     pulses::tags::good(&TAGS, frame)
 }
 
-// What each group of the pulses adds up to: the parts of the second of the day are joined to it.
+// What each group of the pulses adds up to: the parts of the second of the day are joined to it. The joins stand written out: a function for
+// this table and the other's would have to say what it does at places and sums that neither has.
 pub fn sums(frame: &[u8]) -> [u32; 32]
     ensures { result ≡ sums_of frame_pulses frame.now }
 {
     let mut v = pulses::tags::sums(&TAGS, frame);
-    v[SECOND_OF_DAY_GROUP] = v[SECOND_OF_DAY_GROUP] + 256 * v[UPPER];
+    v[groups::SECOND_OF_DAY] += 256 * v[UPPER];
     v[UPPER] = 0;
-    v[SECOND_OF_DAY_GROUP] = v[SECOND_OF_DAY_GROUP] + 65536 * v[TOP];
+    v[groups::SECOND_OF_DAY] += 65536 * v[TOP];
     v[TOP] = 0;
     v
 }
 
 // Whether a frame has its outline: marks exactly where due, and 0 or 1 elsewhere.
+#[tactic(auto, unfolding(crate::specs::Table::frame_pulses))]
 pub fn outlined(frame: &[u8]) -> bool
     ensures { result ≡ outline_of frame_pulses frame.now }
 {
@@ -58,113 +67,79 @@ pub fn lay(out: &mut [u8], values: [u32; 32]) -> bool
     ensures out_after { out.new ≡ laid frame_pulses values out.old }
 {
     let mut said = values;
-    said[UPPER] = said[SECOND_OF_DAY_GROUP] / 256;
-    said[TOP] = said[SECOND_OF_DAY_GROUP] / 65536;
+    said[UPPER] = said[groups::SECOND_OF_DAY] / 256;
+    said[TOP] = said[groups::SECOND_OF_DAY] / 65536;
     pulses::laying::lay(out, &TAGS, said)
 }
 
 // Field and weight of the pulse at a place, as the paper's table has them; beyond the frame, a pulse that is always 0.
+#[tactic(auto, unfolding(crate::specs::Paper::pulse_at))]
 pub fn pulse_at(place: usize) -> Pulse
     ensures { result ≡ pulse_at place }
 {
     let entry = entry_at(place);
-    let group = pulses::group_of(entry);
+    let group = group_at(pulses::group_of(entry));
     Pulse {
-        field: field_of(group),
-        weight: factor_of(group) * pulses::weight_of(entry),
+        field: group.field,
+        weight: group.factor * pulses::weight_of(entry),
     }
 }
 
 fn entry_at(place: usize) -> u32
     ensures { result ≡ get_or frame_pulses place 0 }
 {
-    if 99 < place {
-        return ZERO;
-    }
-    PULSES[place]
+    PULSES.get(place).copied().unwrap_or(ZERO)
 }
 
-fn field_of(group: usize) -> u8
-    ensures { result ≡ field_of group }
-{
-    if 23 < group {
-        return 0;
-    }
-    FIELDS[group]
-}
-
-fn factor_of(group: usize) -> u32
-    ensures value { result ≡ factor_of group }
-    ensures upper_bound { result ≤ 100 }
-{
-    if 13 < group {
-        return 1;
-    }
-    FACTORS[group]
-}
-
-// The group of the second of the day, and the parts that its pulses from 256 on and from 65536 on have.
-const SECOND_OF_DAY_GROUP: usize = 23;
-
+// The parts that the pulses of the second of the day from 256 on and from 65536 on have.
 const UPPER: usize = 24;
 
 const TOP: usize = 25;
 
-// the field of each group
-const FIELDS: [u8; 24] = [
-    0, 0, 1, 2, 2, 3, 3, 4, 4, 5, 5, 5, 6, 6, 7, 8, 9, 10, 11, 12, 13, 14, 15, 16,
-];
-
-// what the weights of a group of decimal digits are to be multiplied by
-const FACTORS: [u32; 14] = [1, 1, 1, 1, 10, 1, 10, 1, 10, 1, 10, 100, 1, 10];
-
-const UNIT: u32 = 134217728;
-
-const ZERO: u32 = 0;
-
+// by `as`, since `from` is no constant
 const MARK: u32 = 2 * UNIT;
 
-const SECONDS: u32 = 3 * UNIT;
+const SECONDS: u32 = (groups::SECONDS as u32) * UNIT;
 
-const TENS_OF_SECONDS: u32 = 4 * UNIT;
+const TENS_OF_SECONDS: u32 = (groups::TENS_OF_SECONDS as u32) * UNIT;
 
-const MINUTES: u32 = 5 * UNIT;
+const MINUTES: u32 = (groups::MINUTES as u32) * UNIT;
 
-const TENS_OF_MINUTES: u32 = 6 * UNIT;
+const TENS_OF_MINUTES: u32 = (groups::TENS_OF_MINUTES as u32) * UNIT;
 
-const HOURS: u32 = 7 * UNIT;
+const HOURS: u32 = (groups::HOURS as u32) * UNIT;
 
-const TENS_OF_HOURS: u32 = 8 * UNIT;
+const TENS_OF_HOURS: u32 = (groups::TENS_OF_HOURS as u32) * UNIT;
 
-const DAYS: u32 = 9 * UNIT;
+const DAYS: u32 = (groups::DAYS as u32) * UNIT;
 
-const TENS_OF_DAYS: u32 = 10 * UNIT;
+const TENS_OF_DAYS: u32 = (groups::TENS_OF_DAYS as u32) * UNIT;
 
-const HUNDREDS_OF_DAYS: u32 = 11 * UNIT;
+const HUNDREDS_OF_DAYS: u32 = (groups::HUNDREDS_OF_DAYS as u32) * UNIT;
 
-const YEARS: u32 = 12 * UNIT;
+const YEARS: u32 = (groups::YEARS as u32) * UNIT;
 
-const TENS_OF_YEARS: u32 = 13 * UNIT;
+const TENS_OF_YEARS: u32 = (groups::TENS_OF_YEARS as u32) * UNIT;
 
-const LEAP_PENDING: u32 = 14 * UNIT;
+const LEAP_PENDING: u32 = (groups::LEAP_PENDING as u32) * UNIT;
 
-const DELETION: u32 = 15 * UNIT;
+const DELETION: u32 = (groups::DELETION as u32) * UNIT;
 
-const CHANGE_PENDING: u32 = 16 * UNIT;
+const CHANGE_PENDING: u32 = (groups::CHANGE_PENDING as u32) * UNIT;
 
-const SUMMER: u32 = 17 * UNIT;
+const SUMMER: u32 = (groups::SUMMER as u32) * UNIT;
 
-const MINUS: u32 = 18 * UNIT;
+const MINUS: u32 = (groups::MINUS as u32) * UNIT;
 
-const OFFSET_HOURS: u32 = 19 * UNIT;
+const OFFSET_HOURS: u32 = (groups::OFFSET_HOURS as u32) * UNIT;
 
-const HALF_HOUR: u32 = 20 * UNIT;
+const HALF_HOUR: u32 = (groups::HALF_HOUR as u32) * UNIT;
 
-const QUALITY: u32 = 21 * UNIT;
+const QUALITY: u32 = (groups::QUALITY as u32) * UNIT;
 
-const PARITY: u32 = 22 * UNIT;
+const PARITY: u32 = (groups::PARITY as u32) * UNIT;
 
-const SECOND_OF_DAY: u32 = 23 * UNIT;
+const SECOND_OF_DAY: u32 = (groups::SECOND_OF_DAY as u32) * UNIT;
 
 // group and weight of each of the hundred pulses
 const PULSES: [u32; 100] = [

@@ -1,5 +1,6 @@
 // The tags of a frame's pulses, by which reader and writer go: the part of a pulse and, 32 times over, which binary digit of what the part
-// says it is. The table `PULSES` is the source; that these are its tags is tested in proofs/TagLaws.antt.
+// says it is. The table `PULSES` is the source; that these are its tags is tested in proofs/TagLaws.antt. It stands in both forms for speed:
+// by bytes a frame is read and laid many pulses at a time.
 pub(crate) const TAGS: [u8; 100] = [
     // 0..9
     2, 3, 35, 67, 99, 0, 4, 36, 68, 2,

@@ -1,4 +1,5 @@
 pub mod PutLaws
+pub mod StampLaws
 pub mod LineLaws
 pub mod RoomLaws
 pub mod Worked

@@ -1,5 +1,7 @@
 -- A buffer of `room_for_any` bytes holds the listing of every book: a record that is not the last has 33 bytes or more, and no
 -- line has more than 88.
+use Rattle.reading.specs.Stamps.{Stamp}
+use Rattle.std.specs.Prelude.{Err, Ok}
 use mathlib.Core.Bool.{Bool, true, false}
 use mathlib.Core.List.{List, ◌++◌}
 use mathlib.Core.Path.{◌≡◌, refl, ap}
@@ -10,17 +12,14 @@ use lib.IntN.{ℤ, pos, negsuc}
 use lib.ListN.{length, length-append}
 use borrow.Author.Tests.{le-leb, lt-leb, lt-ltb, le-ltb}
 use Rattle.reading.specs.declared.Fault.TheVariants.{Length, OtherBase}
-use Rattle.reading.specs.declared.Verdict.TheVariants.{Good, Bad}
-use Rattle.reading.specs.declared.Written.{Written}
-use Rattle.reading.specs.declared.Written.TheVariants.{Length as Stored}
-use Rattle.reading.specs.Faults.{number}
+use Rattle.reading.specs.Faults.{number, no_fault}
 use Rattle.reading.specs.Years.{is_base}
-use Rattle.reading.specs.Writing.{written_of}
+use Rattle.reading.specs.Writing.{written_of, Written}
 use Rattle.reading.proofs.CheckLaws.{clash}
 use Rattle.text.specs.Decimal.{decimal}
 use Rattle.text.proofs.DecimalLaws.{decimal-length}
 use Rattle.book.specs.declared.Stamping.{Stamping}
-use Rattle.book.specs.declared.Stamping.TheVariants.{Over, Stamped, Unstamped}
+use Rattle.book.specs.Stamps.{unstamped}
 use Rattle.book.specs.Book.{kind_at, next_at, records}
 use Rattle.book.proofs.PlaceLaws.{known_long, from_unknown, from_cut, from_whole}
 use Rattle.book.proofs.BookLaws.{Place, beyond, strange, short, whole, place, next_inside}
@@ -54,11 +53,10 @@ stamp-length : (z : ℤ) (behind : List ℕ) → length (stamp_field z behind) �
 stamp-length (pos n) behind = omega (arith, field-length n behind)
 stamp-length (negsuc n) behind = omega (arith, field-length (suc n) behind)
 
-found-length : (found : Stamping) → length (found_text found) ≤ 67
-found-length Over = omega arith
-found-length (Stamped kind stamp) =
+found-length : (kind : ℕ) (stamp : Stamp) → length (found_text kind stamp) ≤ 67
+found-length kind (Ok stamp) =
     omega (arith, length-append (field kind ok_word) (stamp_field stamp.0 zero_at_end), field-length kind ok_word, stamp-length stamp.0 zero_at_end)
-found-length (Unstamped kind x) =
+found-length kind (Err x) =
     omega (
       arith,
       length-append (field kind no_word) (field x.code blank),
@@ -70,7 +68,7 @@ found-length (Unstamped kind x) =
 
 pub line_length : (at : ℕ) (found : Stamping) → length (line_at at found) ≤ 88
 unfolding line_at
-line_length at found = omega (arith, length-append (field at blank) (found_text found), field-length at blank, found-length found)
+line_length at found = omega (arith, length-append (field at blank) (found_text found.kind found.stamp), field-length at blank, found-length found.kind found.stamp)
 
 -- ---- all lines
 
@@ -122,8 +120,8 @@ module _ (base : ℕ) (b : List ℕ) where
     where
       go : Dec (length b ≤ largest_book) → (g : Bool) → is_base base ≡ g → length (body_text base b) + length header ≤ room_for_any
       go (yes h) true e = omega (arith, ap length (body_listed h e), lines-length (length b) 0 (omega arith))
-      go (yes h) false e = omega (arith, ap length (body_other_base h e), line_length 0 (Unstamped 0 (number OtherBase)))
-      go (no n) g e = omega (arith, ap length (body_too_long (omega arith)), line_length 0 (Unstamped 0 (number Length)))
+      go (yes h) false e = omega (arith, ap length (body_other_base h e), line_length 0 (unstamped 0 (number OtherBase)))
+      go (no n) g e = omega (arith, ap length (body_too_long (omega arith)), line_length 0 (unstamped 0 (number Length)))
 
   pub listing_fits : length (listing base b) ≤ room_for_any
   unfolding listing
@@ -131,24 +129,24 @@ module _ (base : ℕ) (b : List ℕ) where
 
 -- ---- the buffer
 
-pub too_small : (n : ℕ) → n < room_for_any → room_fault n ≡ Bad Length
+pub too_small : (n : ℕ) → n < room_for_any → room_fault n ≡ Err Length
 too_small n h = rw (lt-ltb n room_for_any h)
 
-pub large_enough : (n : ℕ) → room_for_any ≤ n → room_fault n ≡ Good
+pub large_enough : (n : ℕ) → room_for_any ≤ n → room_fault n ≡ no_fault
 large_enough n h = rw (le-ltb n room_for_any h)
 
 -- what `list` says it wrote lies within its buffer
 pub within : (base : ℕ) (b l : List ℕ) (w : Written) (n : ℕ)
-    → w ≡ written_of (room_fault (length l)) (length (listing base b)) → w ≡ Stored n → n ≤ length l
+    → w ≡ written_of (room_fault (length l)) (length (listing base b)) → w ≡ Ok n → n ≤ length l
 within base b l w n e f = go (dec_le room_for_any (length l))
   where
     go : Dec (room_for_any ≤ length l) → n ≤ length l
     go (yes h) =
         let g = large_enough (length l) h in
-        let q : Stored n ≡ written_of Good (length (listing base b)) = cc in
+        let q : Ok n ≡ written_of no_fault (length (listing base b)) = cc in
         let k : n ≡ length (listing base b) = cc in
         omega (arith, listing_fits base b)
     go (no m) =
         let g = too_small (length l) (omega arith) in
-        let q : Stored n ≡ written_of (Bad Length) (length (listing base b)) = cc in
+        let q : Ok n ≡ written_of (Err Length) (length (listing base b)) = cc in
         let z : ◌≡◌ {A = ℕ} 0 1 = cc in clash z

@@ -9,6 +9,7 @@ use lib.ListN.{length}
 use Rattle.reading.specs.Faults.{number}
 use Rattle.reading.specs.Years.{usual_base as base, is_base}
 use Rattle.text.specs.Decimal.{decimal, digits_before}
+use Rattle.book.specs.declared.Stamping.{Stamping}
 use Rattle.book.specs.Book.{records}
 use Rattle.book.proofs.BookLaws.{records_end}
 use Rattle.book.proofs.Worked.{case_book, kinds_book, short_book, worked_books, worked_stamps}
@@ -50,6 +51,9 @@ too_long = 48 ∷ 32 ∷ 48 ∷ 32 ∷ 110 ∷ 111 ∷ 32 ∷ 49 ∷ 32 ∷ 48 �
 abbrev other_base : List ℕ
 other_base = 48 ∷ 32 ∷ 48 ∷ 32 ∷ 110 ∷ 111 ∷ 32 ∷ 49 ∷ 57 ∷ 32 ∷ 48 ∷ 10 ∷ []
 
+the_stamp : {x y : Stamping} → x ≡ y → x.stamp ≡ y.stamp
+the_stamp e = ap (λ (z : Stamping). z.stamp) e
+
 -- the last is "an empty book gives the header alone"
 pub worked_listing :
     map (listing base) (case_book ∷ kinds_book ∷ short_book ∷ [] ∷ [])
@@ -58,7 +62,7 @@ unfolding listing body_text lines_of line_at decimal digits_before is_base
 worked_listing =
     let b = worked_books in
     let s = worked_stamps in
-    rw (b.0, b.1, b.2, records_end base [] 0 (omega arith), s.0, s.1, s.2, s.3, s.4, s.5)
+    rw (b.0, b.1, b.2, records_end base [] 0 (omega arith), the_stamp s.0, the_stamp s.1, the_stamp s.2, the_stamp s.4, the_stamp s.5)
 
 -- "reads a book from standard input, at most 65,536 bytes"
 pub listed_book : (base : ℕ) (b : List ℕ) → is_base base ≡ true → length b ≤ 65536 → listing base b ≡ first_line ++ lines_of base (records base b)

@@ -1,16 +1,14 @@
 -- The listing of a book, as text.
-use Rattle.std.specs.Prelude.{cond, List, [], ◌∷◌, ◌++◌, ℕ, suc, leb, ltb, ℤ, pos, negsuc, length}
+use Rattle.reading.specs.Stamps.{Stamp}
+use Rattle.std.specs.Prelude.{cond, List, [], ◌∷◌, ◌++◌, ℕ, suc, leb, ltb, ℤ, pos, negsuc, length, Ok, Err}
 use Rattle.reading.specs.declared.Fault.{Fault}
 use Rattle.reading.specs.declared.Fault.TheVariants.{Length, OtherBase}
-use Rattle.reading.specs.declared.Verdict.{Verdict}
-use Rattle.reading.specs.declared.Verdict.TheVariants.{Good, Bad}
-use Rattle.reading.specs.Faults.{number}
+use Rattle.reading.specs.Faults.{number, Verdict, no_fault}
 use Rattle.reading.specs.Years.{is_base}
 use Rattle.text.specs.Decimal.{decimal}
 use Rattle.book.specs.declared.Stamping.{Stamping}
-use Rattle.book.specs.declared.Stamping.TheVariants.{Over, Stamped, Unstamped}
 use Rattle.book.specs.Book.{Entry, records}
-use Rattle.book.specs.Stamps.{stamping_of}
+use Rattle.book.specs.Stamps.{unstamped, stamping_of}
 
 -- `at kind answer value place` and a line feed
 abbrev pub header : List ℕ
@@ -51,15 +49,14 @@ zero_at_end = 32 ∷ 48 ∷ 10 ∷ []
 abbrev pub line_feed : List ℕ
 line_feed = 10 ∷ []
 
--- "kind in decimal, `ok` with stamp and 0, or `no` with code and place"; nothing where there is no record
-abbrev pub found_text : Stamping → List ℕ
-found_text Over = []
-found_text (Stamped kind stamp) = field kind ok_word ++ stamp_field stamp.0 zero_at_end
-found_text (Unstamped kind refusal) = field kind no_word ++ field refusal.code blank ++ field refusal.place line_feed
+-- "kind in decimal, `ok` with stamp and 0, or `no` with code and place"
+abbrev pub found_text : ℕ → Stamp → List ℕ
+found_text kind (Ok stamp) = field kind ok_word ++ stamp_field stamp.0 zero_at_end
+found_text kind (Err refusal) = field kind no_word ++ field refusal.code blank ++ field refusal.place line_feed
 
 -- "offset of the kind byte", then what was found there
 unfoldable pub line_at : ℕ → Stamping → List ℕ
-line_at at found = field at blank ++ found_text found
+line_at at found = field at blank ++ found_text found.kind found.stamp
 
 -- "a line a record", each with its stamp
 unfoldable pub lines_of : ℕ → List Entry → List ℕ
@@ -72,7 +69,7 @@ largest_book = 65536
 
 -- `0 0 no`, the code and `0`: what is said of a book as a whole
 abbrev pub whole_refused : Fault → List ℕ
-whole_refused fault = line_at 0 (Unstamped 0 (number fault))
+whole_refused fault = line_at 0 (unstamped 0 (number fault))
 
 -- "A longer book gives the header and `0 0 no 1 0`." L12: "any other base or argument is 19, straight after 1 and printed by the programs as
 -- 1 is"
@@ -90,4 +87,4 @@ room_for_any = 262144
 
 -- a smaller buffer is refused
 abbrev pub room_fault : ℕ → Verdict
-room_fault n = cond (ltb n room_for_any) (Bad Length) Good
+room_fault n = cond (ltb n room_for_any) (Err Length) no_fault

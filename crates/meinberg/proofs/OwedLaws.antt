@@ -1,4 +1,5 @@
 -- The code and place of each refusal: the first of the order of the codes whose condition holds, and its lowest place.
+use Rattle.reading.specs.Faults.{no_fault}
 use mathlib.Core.Bool.{Bool, true, false, ◌||◌}
 use mathlib.Core.List.{List, []}
 use mathlib.Core.Path.{◌≡◌, refl}
@@ -7,7 +8,6 @@ use lib.Dec.{ltb}
 use Rattle.reading.specs.declared.Reading.{Reading}
 use Rattle.reading.specs.declared.Refusal.{Refusal}
 use Rattle.reading.specs.declared.Fault.TheVariants.{Length, NotCarried}
-use Rattle.reading.specs.declared.Verdict.TheVariants.{Good}
 use Rattle.reading.specs.Universal.{utc_of}
 use Rattle.reading.specs.Leap.{sixty_bad}
 use Rattle.reading.specs.Writing.{written_of}
@@ -41,7 +41,7 @@ read_owed base s =
 write_through : (base : ℕ) (r : Reading) (room : ℕ) → Through (write_objections base r room) (write_fault base r room)
 unfolding write_objections write_fault
 write_through base r room =
-    judged (ltb room text_length) Length 1 0 _ _ refl refl (one_then_other (checked_through base r) (judged (not_carried r) NotCarried 11 0 [] Good refl refl none))
+    judged (ltb room text_length) Length 1 0 _ _ refl refl (one_then_other (checked_through base r) (judged (not_carried r) NotCarried 11 0 [] no_fault refl refl none))
 
 pub write_owed : (base : ℕ) (r : Reading) (room : ℕ)
     → WrittenOwed (write_objections base r room) write_codes (written_of (write_fault base r room) text_length)

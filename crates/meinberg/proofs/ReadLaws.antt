@@ -1,4 +1,5 @@
 -- The faults of a string in their order; when a string is accepted, and what its time then is.
+use Rattle.std.specs.Prelude.{Err, Ok}
 use mathlib.Core.Bool.{Bool, true, false, not}
 use mathlib.Core.List.{List}
 use mathlib.Core.Path.{◌≡◌, refl, sym}
@@ -8,19 +9,15 @@ use lib.Dec.{eqb, ltb}
 use lib.ListN.{length, get_or}
 use borrow.Author.Tests.{eq-eqb, ne_eqb, eqb-true, lt-ltb, le-ltb, ltb-false, not-false}
 use Rattle.reading.specs.declared.Reading.{Reading}
-use Rattle.reading.specs.declared.Verdict.{Verdict}
-use Rattle.reading.specs.declared.Verdict.TheVariants.{Good, Bad}
 use Rattle.reading.specs.declared.Fault.{Fault}
 use Rattle.reading.specs.declared.Fault.TheVariants.{Length, Byte, OtherBase}
-use Rattle.reading.specs.Faults.{number}
+use Rattle.reading.specs.Faults.{number, no_fault}
 use Rattle.reading.specs.Years.{is_base}
-use Rattle.reading.proofs.CheckLaws.{first_good, clash}
+use Rattle.reading.proofs.CheckLaws.{first_good}
 use Rattle.wire.specs.Digits.{digit}
 use Rattle.wire.specs.Layout.{good_places}
 use Rattle.wire.proofs.LayoutLaws.{allowed_at, good_within, first_bad_is}
-use Rattle.strings.specs.declared.Answer.TheVariants.{Time, No}
-use Rattle.strings.specs.Checks.{fault_of, answer_of}
-use Rattle.strings.proofs.CheckLaws.{Sound, sound, faultless}
+use Rattle.strings.proofs.CheckLaws.{Sound, sound, faultless, told_of}
 use Rattle.meinberg.specs.Layout.{text_length, last_place, layout, places}
 use Rattle.meinberg.specs.Meaning.{meaning, coasting_in, fault_in, read_meinberg}
 
@@ -28,43 +25,34 @@ pub layout-length : length layout ≡ text_length
 unfolding layout
 layout-length = refl
 
--- ---- the faults, in their order
+-- ---- the faults that come before what a string says
 
 module _ (base : ℕ) (s : List ℕ) where
-  pub wrong_length : (length s ≡ text_length → ⊥) → Bad Length ≡ fault_in base s
+  pub wrong_length : (length s ≡ text_length → ⊥) → Err Length ≡ fault_in base s
   unfolding fault_in
   wrong_length h = rw (ne_eqb (length s) text_length h)
 
-  pub other_base_lem : length s ≡ text_length → is_base base ≡ false → Bad OtherBase ≡ fault_in base s
+  pub other_base_lem : length s ≡ text_length → is_base base ≡ false → Err OtherBase ≡ fault_in base s
   unfolding fault_in
   other_base_lem h b = rw (eq-eqb (length s) text_length h, b)
 
-  pub bad_byte : (n : ℕ) → length s ≡ text_length → is_base base ≡ true → n ≡ good_places layout s → n < text_length → Bad (Byte n) ≡ fault_in base s
+  pub bad_byte : (n : ℕ) → length s ≡ text_length → is_base base ≡ true → n ≡ good_places layout s → n < text_length → Err (Byte n) ≡ fault_in base s
   unfolding fault_in
   bad_byte n h b e k = rw (eq-eqb (length s) text_length h, b, ← e, lt-ltb n text_length k)
 
-  pub checked_last : (v : Verdict) (n : ℕ) → length s ≡ text_length → is_base base ≡ true → n ≡ good_places layout s → text_length ≤ n
-      → v ≡ fault_of (meaning base s) (digit (get_or s places.weekday 0)) false false places → v ≡ fault_in base s
-  unfolding fault_in
-  checked_last v n h b e k f = rw (eq-eqb (length s) text_length h, b, ← e, le-ltb n text_length k) f
-
-  -- the answer that goes with a fault, and with the last check's verdict
-  pub refused : (x : Fault) → Bad x ≡ fault_in base s → No (number x) ≡ read_meinberg base s
+  -- the answer that goes with a fault
+  pub refused : (x : Fault) → Err x ≡ fault_in base s → Err (number x) ≡ read_meinberg base s
   unfolding read_meinberg
   refused x e = rw (← e)
 
-  pub answered : (v : Verdict) → v ≡ fault_in base s → answer_of v (meaning base s) (coasting_in s) ≡ read_meinberg base s
-  unfolding read_meinberg
-  answered v e = rw e
-
   -- "wrong input length"
-  pub length-refused : (length s ≡ text_length → ⊥) → read_meinberg base s ≡ No (number Length)
+  pub length-refused : (length s ≡ text_length → ⊥) → read_meinberg base s ≡ Err (number Length)
   unfolding read_meinberg
   length-refused h = rw (← wrong_length h)
 
   -- "for code 2 it is the lowest bad place"
   pub lowest_bad_byte : length s ≡ text_length → is_base base ≡ true → (k : ℕ) → k ≤ last_place → allowed_at layout s k ≡ false
-      → ((i : ℕ) → i < k → allowed_at layout s i ≡ true) → read_meinberg base s ≡ No (number (Byte k))
+      → ((i : ℕ) → i < k → allowed_at layout s i ≡ true) → read_meinberg base s ≡ Err (number (Byte k))
   unfolding read_meinberg
   lowest_bad_byte h b k l e f =
       let n = first_bad_is layout s k (omega (arith, layout-length)) (omega arith) e f in
@@ -79,7 +67,7 @@ pub record Accepted (base : ℕ) (s : List ℕ) : Type 0 where
   pub says : Sound (meaning base s) (digit (get_or s places.weekday 0)) false false
 
 module _ (base : ℕ) (s : List ℕ) where
-  pub accepted : fault_in base s ≡ Good → Accepted base s
+  pub accepted : fault_in base s ≡ no_fault → Accepted base s
   unfolding fault_in
   accepted e =
       let a = first_good (not (eqb (length s) text_length)) _ _ e in
@@ -94,7 +82,7 @@ module _ (base : ℕ) (s : List ℕ) where
         says = sound (meaning base s) (digit (get_or s places.weekday 0)) false false places b.1;
       }
 
-  pub is_accepted : Accepted base s → fault_in base s ≡ Good
+  pub is_accepted : Accepted base s → fault_in base s ≡ no_fault
   unfolding fault_in
   is_accepted p =
       let enough = le-ltb (good_places layout s) text_length (omega (arith, p.bytes)) in
@@ -102,21 +90,17 @@ module _ (base : ℕ) (s : List ℕ) where
       (faultless (meaning base s) (digit (get_or s places.weekday 0)) false false places p.says)
 
 pub record Told (base : ℕ) (s : List ℕ) (r : Reading) (coasting : Bool) : Type 0 where
-  pub good : fault_in base s ≡ Good
+  pub good : fault_in base s ≡ no_fault
   pub time : meaning base s ≡ r
   pub coasts : coasting_in s ≡ coasting
 
-timed : (v : Verdict) (m r : Reading) (a b : Bool) → answer_of v m a ≡ Time r b → (v ≡ Good) × (m ≡ r) × (a ≡ b)
-timed Good m r a b e = (refl, cc, cc)
-timed (Bad x) m r a b e = let z : ◌≡◌ {A = ℕ} 0 1 = cc in clash z
-
 module _ (base : ℕ) (s : List ℕ) (r : Reading) (coasting : Bool) where
-  pub told_is : read_meinberg base s ≡ Time r coasting → Told base s r coasting
+  pub told_is : read_meinberg base s ≡ Ok (r, coasting) → Told base s r coasting
   unfolding read_meinberg
   told_is e =
-      let p = timed (fault_in base s) (meaning base s) r (coasting_in s) coasting e in
+      let p = told_of (fault_in base s) (meaning base s) r (coasting_in s) coasting e in
       record { good = p.0; time = p.1; coasts = p.2 }
 
-  pub is_told : Told base s r coasting → read_meinberg base s ≡ Time r coasting
+  pub is_told : Told base s r coasting → read_meinberg base s ≡ Ok (r, coasting)
   unfolding read_meinberg
   is_told p = rw (p.good, p.time, p.coasts)

@@ -1,4 +1,5 @@
 -- What is written reads back, what is read writes back, and nothing else is read. All of it at every base year.
+use Rattle.std.specs.Prelude.{Err, Ok}
 use mathlib.Core.Bool.{Bool, true, false}
 use mathlib.Core.List.{List}
 use mathlib.Core.Path.{◌≡◌, refl, sym, subst, ap, ◌∙◌}
@@ -10,9 +11,7 @@ use Rattle.reading.specs.declared.Reading.{Reading}
 use Rattle.reading.specs.declared.Fault.{Fault}
 use Rattle.reading.specs.declared.Refusal.{Refusal}
 use Rattle.reading.specs.declared.Fault.TheVariants.{OutsideYears}
-use Rattle.reading.specs.declared.Verdict.TheVariants.{Good, Bad}
-use Rattle.reading.specs.declared.Stamp.TheVariants.{Refused}
-use Rattle.reading.specs.Faults.{number}
+use Rattle.reading.specs.Faults.{number, no_fault}
 use Rattle.reading.specs.Universal.{utc_of}
 use Rattle.reading.specs.Checks.{checked_of}
 use Rattle.reading.specs.Stamps.{has_stamp, stamp_number, stamp_of}
@@ -22,7 +21,6 @@ use Rattle.reading.proofs.CheckLaws.{Checked, checked_is, is_checked, clash}
 use Rattle.reading.proofs.StampLaws.{is_stamp, refused_by_12}
 use Rattle.reading.proofs.YearLaws.{year_in_lem}
 use Rattle.wire.specs.Digits.{pair, digit}
-use Rattle.strings.specs.declared.Answer.TheVariants.{Time}
 use Rattle.strings.proofs.CheckLaws.{Sound}
 use Rattle.meinberg.specs.Layout.{text_length, places, year_place, failure_place, zone_place, announcement_place}
 use Rattle.meinberg.specs.Meaning.{meaning, read_meinberg}
@@ -59,7 +57,7 @@ module _ (base : ℕ) (r : Reading) (coasting : Bool) (checked : Checked base r)
         says = rw (meaning_back base r coasting checked carried) said;
       }
 
-  bytes_read : read_meinberg base (bytes_of r coasting) ≡ Time r coasting
+  bytes_read : read_meinberg base (bytes_of r coasting) ≡ Ok (r, coasting)
   bytes_read =
       is_told base (bytes_of r coasting) r coasting
       (record {
@@ -69,12 +67,12 @@ module _ (base : ℕ) (r : Reading) (coasting : Bool) (checked : Checked base r)
       })
 
 module _ (base : ℕ) (r : Reading) (coasting : Bool) where
-  pub bytes_told : (room : ℕ) → write_fault base r room ≡ Good → read_meinberg base (bytes_of r coasting) ≡ Time r coasting
+  pub bytes_told : (room : ℕ) → write_fault base r room ≡ no_fault → read_meinberg base (bytes_of r coasting) ≡ Ok (r, coasting)
   bytes_told room e = let w = writable base r room e in bytes_read base r coasting (checked_is base r w.checked) w.carried
 
   -- "What you write reads back as the same time with the same flags", whatever the buffer held before
-  pub written_reads : (buffer : List ℕ) → write_fault base r (length buffer) ≡ Good
-      → read_meinberg base (take text_length (filled (write_fault base r (length buffer)) (bytes_of r coasting) buffer)) ≡ Time r coasting
+  pub written_reads : (buffer : List ℕ) → write_fault base r (length buffer) ≡ no_fault
+      → read_meinberg base (take text_length (filled (write_fault base r (length buffer)) (bytes_of r coasting) buffer)) ≡ Ok (r, coasting)
   written_reads buffer e =
       let text = bytes_of r coasting in
       rw (e, take_at text (drop (length text) buffer) text_length (bytes-length r coasting)) (bytes_told (length buffer) e)
@@ -109,7 +107,7 @@ module _ (base : ℕ) (s : List ℕ) (p : Accepted base s) where
   meaning_writable : (room : ℕ) → text_length ≤ room → Writable base (meaning base s) room
   meaning_writable room h = record { enough = h; checked = is_checked base (meaning base s) meaning_checked; carried = meaning_carried }
 
-module _ (base : ℕ) (s : List ℕ) (r : Reading) (coasting : Bool) (read : read_meinberg base s ≡ Time r coasting) where
+module _ (base : ℕ) (s : List ℕ) (r : Reading) (coasting : Bool) (read : read_meinberg base s ≡ Ok (r, coasting)) where
   told : Told base s r coasting
   told = told_is base s r coasting read
 
@@ -125,17 +123,17 @@ module _ (base : ℕ) (s : List ℕ) (r : Reading) (coasting : Bool) (read : rea
   read_writes = rw (← told.time, ← told.coasts) (spelled_back base s string_accepted)
 
   -- and no writer with room for them refuses
-  pub read_writable : (room : ℕ) → text_length ≤ room → write_fault base r room ≡ Good
+  pub read_writable : (room : ℕ) → text_length ≤ room → write_fault base r room ≡ no_fault
   read_writable room h =
-      subst (λ (m : Reading). write_fault base m room ≡ Good) told.time
+      subst (λ (m : Reading). write_fault base m room ≡ no_fault) told.time
       (is_writable base (meaning base s) room (meaning_writable base s string_accepted room h))
 
   -- an accepted reading passes the checks of every reading
-  pub accepted_checked : checked_of base r ≡ Good
+  pub accepted_checked : checked_of base r ≡ no_fault
   accepted_checked = (writable base r text_length (read_writable text_length (omega arith))).checked
 
   -- so that stamping refuses it by 12 alone
-  pub accepted_stamped : (n : Refusal) → stamp_of base r ≡ Refused n → n ≡ number OutsideYears
+  pub accepted_stamped : (n : Refusal) → stamp_of base r ≡ Err n → n ≡ number OutsideYears
   accepted_stamped n e = go (has_stamp (utc_of r).date.year) refl
     where
       go : (b : Bool) → has_stamp (utc_of r).date.year ≡ b → n ≡ number OutsideYears
@@ -153,14 +151,14 @@ module _ (base : ℕ) (s : List ℕ) (r : Reading) (coasting : Bool) (read : rea
 -- ---- "Accept exactly the strings that document 01 draws": a string says a time where it is the bytes of a reading that is written
 
 pub exactly : (base : ℕ) (s : List ℕ) (r : Reading) (coasting : Bool)
-    → (read_meinberg base s ≡ Time r coasting → (write_fault base r text_length ≡ Good) × (s ≡ bytes_of r coasting))
-    × ((write_fault base r text_length ≡ Good) × (s ≡ bytes_of r coasting) → read_meinberg base s ≡ Time r coasting)
+    → (read_meinberg base s ≡ Ok (r, coasting) → (write_fault base r text_length ≡ no_fault) × (s ≡ bytes_of r coasting))
+    × ((write_fault base r text_length ≡ no_fault) × (s ≡ bytes_of r coasting) → read_meinberg base s ≡ Ok (r, coasting))
 exactly base s r coasting = (
   λ e. (read_writable base s r coasting e text_length (omega arith), sym (read_writes base s r coasting e)),
   λ p. ap (read_meinberg base) p.1 ∙ bytes_told base r coasting text_length p.0,
 )
 
 -- a refusal "leaves all lent memory untouched"
-pub refused_untouched : (base : ℕ) (r : Reading) (coasting : Bool) (buffer : List ℕ) (x : Fault) → write_fault base r (length buffer) ≡ Bad x
+pub refused_untouched : (base : ℕ) (r : Reading) (coasting : Bool) (buffer : List ℕ) (x : Fault) → write_fault base r (length buffer) ≡ Err x
     → filled (write_fault base r (length buffer)) (bytes_of r coasting) buffer ≡ buffer
 refused_untouched base r coasting buffer x e = rw e

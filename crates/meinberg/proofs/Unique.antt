@@ -8,10 +8,6 @@ use Rattle.meinberg.proofs.read.for_clock_string.Kinds as for-clock-string-kinds
 use Rattle.meinberg.proofs.read.for_clock_string.Reads as for-clock-string-reads
 use Rattle.meinberg.proofs.Meinberg.write.Kinds as write-kinds
 use Rattle.meinberg.proofs.Meinberg.write.Reads as write-reads
-use Rattle.meinberg.proofs.layout.allowed_places.Kinds as allowed-places-kinds
-use Rattle.meinberg.proofs.layout.allowed_places.Reads as allowed-places-reads
-use Rattle.meinberg.proofs.layout.field_places.Kinds as field-places-kinds
-use Rattle.meinberg.proofs.layout.field_places.Reads as field-places-reads
 use Rattle.meinberg.proofs.write.into.Kinds as into-kinds
 use Rattle.meinberg.proofs.write.into.Reads as into-reads
 use Rattle.meinberg.proofs.zones.offset_of.Kinds as offset-of-kinds
@@ -31,12 +27,6 @@ pub write_one : (κs : Lfts 1) (a : Dens κs write-kinds.ps) (x y : (res_t write
 write_one κs a x y e f p q = (cc, cc)
 
 -- ---- what the crate's own files call
-
-pub allowed_places_one : Coincide 1 allowed-places-kinds.ps allowed-places-kinds.r allowed-places-reads.Post
-allowed_places_one κs a x y e f p q = cc
-
-pub field_places_one : Coincide 0 field-places-kinds.ps field-places-kinds.r field-places-reads.Post
-field_places_one κs a x y e f p q = cc
 
 pub into_one : (κs : Lfts 1) (a : Dens κs into-kinds.ps) (x y : (res_t into-kinds.r κs).Denot) (e f : AtExit (ended_of 1 into-kinds.ps into-kinds.r) κs)
     → into-reads.Post κs a x e → into-reads.Post κs a y f → (x ≡ y) × (e.1.1.1.0.now ≡ f.1.1.1.0.now)

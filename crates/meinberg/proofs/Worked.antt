@@ -1,5 +1,6 @@
 -- Cases 2 and 5 of the paper, what each letter says, and which of several faults is told: literal bytes and literal answers,
 -- computed from the definitions.
+use Rattle.std.specs.Prelude.{Err, Ok}
 use mathlib.Core.Bool.{Bool, true, false}
 use mathlib.Core.List.{List, [], ◌∷◌, map}
 use mathlib.Core.Path.{◌≡◌, refl}
@@ -16,9 +17,7 @@ use Rattle.reading.specs.Checks.{time_bad, date_bad, sound_of, checked_of, day_b
 use Rattle.reading.specs.Stamps.{has_stamp, count_of, count_zero, stamp_number, stamp_is, stamp_at, stamp_of}
 use Rattle.wire.specs.Digits.{digit, pair}
 use Rattle.wire.specs.Layout.{packed, exactly, from, either, one_of, within, beside, allowed, good_places}
-use Rattle.strings.specs.declared.Answer.{Answer}
-use Rattle.strings.specs.declared.Answer.TheVariants.{Time, No}
-use Rattle.strings.specs.Checks.{weekday_bad, fault_of}
+use Rattle.strings.specs.Checks.{weekday_bad, fault_of, Answer}
 use Rattle.meinberg.specs.Layout.{layout}
 use Rattle.meinberg.specs.Zones.{offset_of, summer_of}
 use Rattle.meinberg.specs.Meaning.{quality_of, coasting_in, meaning, fault_in, read_meinberg}
@@ -95,12 +94,12 @@ on_leap_day offset summer leap change quality =
     }
 
 abbrev refused : ℕ → ℕ → Answer
-refused code place = No (record { code = code; place = place })
+refused code place = Err (record { code = code; place = place })
 
 -- case 2; case 5: "29.02.24 is weekday 4. 29.02.23: code 5", which by L5 is 16 at the day
 pub worked :
     map (read_meinberg base) (leap_second ∷ leap_day ∷ no_such_day ∷ [])
-    ≡ Time at_leap_second false ∷ Time (on_leap_day (pos 4) false false false 0) false ∷ refused 16 3 ∷ []
+    ≡ Ok (at_leap_second, false) ∷ Ok ((on_leap_day (pos 4) false false false 0), false) ∷ refused 16 3 ∷ []
 unfolding read_meinberg fault_in meaning coasting_in quality_of offset_of summer_of
     layout packed exactly from either one_of within beside allowed good_places digit pair
     fault_of day_bad month_bad weekday_bad weekday_wrong number year_of
@@ -115,9 +114,9 @@ pub worked_letters :
     (map (read_meinberg base) (
     string 52 32 32 85 32 ∷ string 52 32 32 32 32 ∷ string 52 32 32 83 32
     ∷ string 52 35 32 32 32 ∷ string 52 32 42 32 32 ∷ string 52 32 32 32 33 ∷ string 52 32 32 32 65 ∷ [])
-    ≡ Time (on_leap_day (pos 0) false false false 0) false ∷ Time (on_leap_day (pos 4) false false false 0) false ∷ Time (on_leap_day (pos 8) true false false 0) false
-    ∷ Time (on_leap_day (pos 4) false false false 15) false ∷ Time (on_leap_day (pos 4) false false false 0) true
-    ∷ Time (on_leap_day (pos 4) false false true 0) false ∷ Time (on_leap_day (pos 4) false true false 0) false ∷ [])
+    ≡ Ok ((on_leap_day (pos 0) false false false 0), false) ∷ Ok ((on_leap_day (pos 4) false false false 0), false) ∷ Ok ((on_leap_day (pos 8) true false false 0), false)
+    ∷ Ok ((on_leap_day (pos 4) false false false 15), false) ∷ Ok ((on_leap_day (pos 4) false false false 0), true)
+    ∷ Ok ((on_leap_day (pos 4) false false true 0), false) ∷ Ok ((on_leap_day (pos 4) false true false 0), false) ∷ [])
     × (map (read_meinberg base) (string 48 32 32 32 32 ∷ string 56 32 32 32 32 ∷ string 57 32 32 32 32 ∷ string 51 32 32 32 32 ∷ string 52 37 32 32 32 ∷ [])
     ≡ refused 16 14 ∷ refused 16 14 ∷ refused 16 14 ∷ refused 6 14 ∷ refused 2 27 ∷ [])
 unfolding read_meinberg fault_in meaning coasting_in quality_of offset_of summer_of

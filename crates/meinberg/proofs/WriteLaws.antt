@@ -1,6 +1,10 @@
--- When a reading is written: what a verdict without a fault tells, and back.
+-- When a reading is written: what a verdict without a fault tells, and back; and what is then stored.
+use Rattle.reading.specs.Faults.{no_fault}
+use Rattle.std.specs.Prelude.{Err}
+use native.Mathlib.Omega.{arith}
+use mathlib.Core.List.{List}
 use mathlib.Core.Bool.{Bool, true, false, not, ◌&&◌, ◌||◌}
-use mathlib.Core.Path.{◌≡◌, refl}
+use mathlib.Core.Path.{◌≡◌, refl, sym}
 use Prim.Native.Nat.{ℕ, ◌≤◌}
 use lib.Dec.{ltb, leb}
 use lib.ListN.{length}
@@ -10,10 +14,12 @@ use Rattle.reading.specs.Years.{is_base}
 use Rattle.reading.specs.declared.Fault.TheVariants.{OtherBase}
 use Rattle.laws.proofs.Bools.{neither}
 use Rattle.reading.specs.declared.Reading.{Reading}
-use Rattle.reading.specs.declared.Verdict.TheVariants.{Good, Bad}
 use Rattle.reading.specs.Checks.{checked_of}
 use Rattle.reading.proofs.CheckLaws.{first_good}
 use Rattle.reading.proofs.WrittenLaws.{then_good}
+use Rattle.reading.specs.Writing.{filled}
+use Rattle.wire.specs.Put.{stored}
+use Rattle.wire.proofs.StoreLaws.{stored_first}
 use Rattle.meinberg.specs.Layout.{text_length}
 use Rattle.meinberg.specs.Zones.{zone_carried}
 use Rattle.meinberg.specs.Writing.{bytes_of, not_carried, write_fault}
@@ -25,7 +31,7 @@ pub record Carried (r : Reading) : Type 0 where
 
 pub record Writable (base : ℕ) (r : Reading) (room : ℕ) : Type 0 where
   pub enough : text_length ≤ room
-  pub checked : checked_of base r ≡ Good
+  pub checked : checked_of base r ≡ no_fault
   pub carried : Carried r
 
 pub carried_is : (r : Reading) → not_carried r ≡ false → Carried r
@@ -43,7 +49,7 @@ unfolding not_carried
 is_carried r p = rw (p.zone, p.announced, p.quality)
 
 module _ (base : ℕ) (r : Reading) (room : ℕ) where
-  pub writable : write_fault base r room ≡ Good → Writable base r room
+  pub writable : write_fault base r room ≡ no_fault → Writable base r room
   unfolding write_fault
   writable e =
       let p = first_good (ltb room text_length) _ _ e in
@@ -51,15 +57,22 @@ module _ (base : ℕ) (r : Reading) (room : ℕ) where
       let n = first_good (not_carried r) _ _ q.1 in
       record { enough = ltb-false room text_length p.0; checked = q.0; carried = carried_is r n.0 }
 
-  pub is_writable : Writable base r room → write_fault base r room ≡ Good
+  pub is_writable : Writable base r room → write_fault base r room ≡ no_fault
   unfolding write_fault
   is_writable p = rw (le-ltb room text_length p.enough, p.checked, is_carried r p.carried)
 
 -- "any other base .. is 19, straight after 1": where there is room, whatever the reading
-pub other_base_refused : (base : ℕ) (r : Reading) (room : ℕ) → text_length ≤ room → is_base base ≡ false → write_fault base r room ≡ Bad OtherBase
+pub other_base_refused : (base : ℕ) (r : Reading) (room : ℕ) → text_length ≤ room → is_base base ≡ false → write_fault base r room ≡ Err OtherBase
 unfolding write_fault
 other_base_refused base r room h g = rw (le-ltb room text_length h, other_base_checked base r g)
 
 pub bytes-length : (r : Reading) (coasting : Bool) → length (bytes_of r coasting) ≡ text_length
 unfolding bytes_of
 bytes-length r coasting = refl
+
+-- where nothing is wrong, the text at the start of the buffer is all that is owed
+pub stored_text : (base : ℕ) (r : Reading) (coasting : Bool) (buffer : List ℕ) → no_fault ≡ write_fault base r (length buffer)
+    → stored 0 (bytes_of r coasting) buffer ≡ filled (write_fault base r (length buffer)) (bytes_of r coasting) buffer
+stored_text base r coasting buffer e =
+    let enough = (writable base r (length buffer) (sym e)).enough in
+    rw (sym e) (stored_first (bytes_of r coasting) buffer (omega (arith, bytes-length r coasting)))

@@ -1,15 +1,13 @@
 -- What a Meinberg string says, field by field, and the answer to it.
 use Rattle.std.specs.Prelude.{Bool, false, cond, not, List, ℕ, eqb, ltb, length, get_or}
 use Rattle.reading.specs.declared.Reading.{Reading}
-use Rattle.reading.specs.declared.Verdict.{Verdict}
 use Rattle.reading.specs.declared.Fault.TheVariants.{Length, Byte}
-use Rattle.reading.specs.Faults.{first}
+use Rattle.reading.specs.Faults.{first, Verdict}
 use Rattle.reading.specs.Checks.{on_base}
 use Rattle.reading.specs.Years.{year_of}
 use Rattle.wire.specs.Digits.{digit, pair}
 use Rattle.wire.specs.Layout.{good_places}
-use Rattle.strings.specs.declared.Answer.{Answer}
-use Rattle.strings.specs.Checks.{fault_of, answer_of}
+use Rattle.strings.specs.Checks.{fault_of, answer_of, Answer}
 use Rattle.meinberg.specs.Layout.{
   text_length,
   bang,

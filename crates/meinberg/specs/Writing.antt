@@ -2,10 +2,8 @@
 use Rattle.std.specs.Prelude.{Bool, cond, not, ◌&&◌, ◌||◌, List, [], ◌∷◌, ℕ, ◌%◌, eqb, leb, ltb}
 use Rattle.calendar.specs.Calendar.{weekday_of}
 use Rattle.reading.specs.declared.Reading.{Reading}
-use Rattle.reading.specs.declared.Verdict.{Verdict}
-use Rattle.reading.specs.declared.Verdict.TheVariants.{Good}
 use Rattle.reading.specs.declared.Fault.TheVariants.{Length, NotCarried}
-use Rattle.reading.specs.Faults.{first}
+use Rattle.reading.specs.Faults.{first, Verdict, no_fault}
 use Rattle.reading.specs.Universal.{date_of}
 use Rattle.reading.specs.Checks.{checked_of}
 use Rattle.reading.specs.Writing.{and_then}
@@ -41,4 +39,4 @@ not_carried r = not (zone_carried r.offset.0 r.summer) || (r.change && r.leap) |
 
 -- the first reason not to write the reading r into room bytes
 unfoldable pub write_fault : ℕ → Reading → ℕ → Verdict
-write_fault base r room = first (ltb room text_length) Length (and_then (checked_of base r) (first (not_carried r) NotCarried Good))
+write_fault base r room = first (ltb room text_length) Length (and_then (checked_of base r) (first (not_carried r) NotCarried no_fault))

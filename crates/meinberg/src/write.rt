@@ -9,44 +9,39 @@ ghost use Rattle.meinberg.specs.Writing.{announcement, year_digits, bytes_of, no
 
 use super::Meinberg;
 use super::zones::{zone_carried, zone_letter};
-use calendar::Date;
 use calendar::days::weekday;
 use reading::checks::checked;
-use reading::faults::refusal_of;
-use reading::{Fault, Reading, Verdict, Written};
-use strings::letters::mark;
+use reading::{Fault, Reading, Refusal};
+use strings::letters::{mark, quality_unshown};
 use wire::digits::{ones, tens};
 use wire::put::put_at;
 
+#[tactic(auto, unfolding(crate::specs::Writing::not_carried))]
 fn not_carried(r: Reading) -> bool
     ensures { result ≡ not_carried r }
 {
-    let offset = r.offset;
-    !zone_carried(offset, r.summer) | (r.change & r.leap) | ((1 <= r.quality) & (r.quality <= 14))
+    !zone_carried(r.offset, r.summer) | (r.change & r.leap) | quality_unshown(r.quality)
 }
 
-fn write_fault(base: u16, r: Reading, room: usize) -> Verdict
+#[tactic(auto, unfolding(crate::specs::Writing::write_fault))]
+fn write_fault(base: u16, r: Reading, room: usize) -> Result<(), Fault>
     ensures { result ≡ write_fault base r room }
 {
     if room < Meinberg::LENGTH {
-        return Verdict::Bad(Fault::Length);
+        return Err(Fault::Length);
     }
-    if let Verdict::Bad(fault) = checked(base, r) {
-        return Verdict::Bad(fault);
-    }
+    checked(base, r)?;
     if not_carried(r) {
-        return Verdict::Bad(Fault::NotCarried);
+        return Err(Fault::NotCarried);
     }
-    Verdict::Good
+    Ok(())
 }
 
+#[tactic(auto, unfolding(crate::specs::Writing::announcement))]
 fn announcement(change: bool, leap: bool) -> u8
     ensures { result ≡ announcement change leap }
 {
-    if change {
-        return b'!';
-    }
-    mark(leap, b'A')
+    if change { b'!' } else { mark(leap, b'A') }
 }
 
 fn year_digits(year: u16) -> u8
@@ -58,19 +53,14 @@ fn year_digits(year: u16) -> u8
 fn weekday_digit(r: Reading) -> u8
     ensures { result ≡ ones (weekday_of (date_of r)) }
 {
-    let date = Date {
-        year: r.year,
-        month: r.month,
-        day: r.day,
-    };
-    ones(weekday(date))
+    ones(weekday(r.date()))
 }
 
+#[tactic(auto, unfolding(crate::specs::Writing::bytes_of))]
 fn bytes_of(r: Reading, coasting: bool) -> [u8; 32]
     ensures { result ≡ bytes_of r coasting }
 {
     let year = year_digits(r.year);
-    let offset = r.offset;
     [
         2,
         b'D',
@@ -101,21 +91,20 @@ fn bytes_of(r: Reading, coasting: bool) -> [u8; 32]
         b';',
         mark(r.quality == 15, b'#'),
         mark(coasting, b'*'),
-        zone_letter(offset, r.summer),
+        zone_letter(r.offset, r.summer),
         announcement(r.change, r.leap),
         3,
     ]
 }
 
 // Every refusal is decided before the first store.
-pub(crate) fn into(base: u16, r: Reading, coasting: bool, out: &mut [u8]) -> Written
+#[tactic(auto, using(crate::proofs::WriteLaws::stored_text))]
+pub(crate) fn into(base: u16, r: Reading, coasting: bool, out: &mut [u8]) -> Result<usize, Refusal>
     ensures value { result ≡ written_of (write_fault base r (length out.old)) text_length }
     ensures out_after { out.new ≡ filled (write_fault base r (length out.old)) (bytes_of r coasting) out.old }
 {
-    if let Verdict::Bad(fault) = write_fault(base, r, out.len()) {
-        return Written::No(refusal_of(fault));
-    }
+    write_fault(base, r, out.len())?;
     let text = bytes_of(r, coasting);
     put_at(out, 0, &text);
-    Written::Length(Meinberg::LENGTH)
+    Ok(Meinberg::LENGTH)
 }

@@ -14,7 +14,7 @@ use Rattle.laws.specs.Tests.{below}
 use Rattle.laws.proofs.Bools.{where_so, then, holds}
 use Rattle.laws.proofs.Tested.{at, and_left, and_right}
 use Rattle.pulses.specs.Row.{groups, first_data, up_to}
-use Rattle.pulses.specs.Tags.{total, cells_after, cells_say, tag_sums}
+use Rattle.pulses.specs.Tags.{total, cells_put, cells_after, cells_say, tag_sums}
 use Rattle.pulses.proofs.CellLaws.{cells_long}
 use Rattle.pulses.proofs.PartLaws.{part_sum}
 use Rattle.pulses.proofs.SumLaws.{zeros}
@@ -69,7 +69,7 @@ module _ (tags s : List ℕ) (own : T (own_tags tags)) where
   -- a cell of data holds the pulse that has its tag, or nothing
   held : (c : ℕ) → first_data ≤ c % groups → (n : ℕ) → n ≤ length tags
       → get_or (cells_after tags s n) c 0 % 2 ≡ total (λ i. cond (eqb (get_or tags i 0) c) (get_or s i 0 % 2) 0) n
-  unfolding cells_after total
+  unfolding cells_put cells_after total
   held c d zero h = rw (zeros 256 c)
   held c d (suc n) h = elim (ℕ_discrete (get_or tags n 0) c) [
     | yes e ↦

@@ -10,7 +10,7 @@ use lib.ListN.{get_or}
 use lib.Pow.{pow_pos}
 use borrow.Author.Tests.{lt-ltb, le-ltb, ltb-true, ltb-false, eqb-true, eq-eqb, ne_eqb}
 use mathlib.Core.List.{List}
-use Rattle.pulses.specs.Row.{weights, groups, first_data, group_of, is_fixed, weight_of, pulse_allowed, digit_of, pulse_of, pulse_for}
+use Rattle.pulses.specs.Row.{groups, first_data, group_of, is_fixed, weight_of, pulse_allowed, digit_of, pulse_of, pulse_for}
 
 pub group_small : (e : ℕ) → group_of e < groups
 unfolding group_of
@@ -24,14 +24,6 @@ module _ (e : ℕ) where
 
   pub loose : first_data ≤ group_of e → is_fixed e ≡ false
   loose h = le-ltb (group_of e) first_data h
-
-  pub fixed_weight : group_of e < first_data → weight_of e ≡ 0
-  unfolding weight_of
-  fixed_weight h = rw (fixed h)
-
-  pub data_weight : first_data ≤ group_of e → weight_of e ≡ e % weights
-  unfolding weight_of
-  data_weight h = rw (loose h)
 
   pub fixed_allowed : (b : ℕ) → group_of e < first_data → pulse_allowed e b ≡ eqb b (group_of e)
   unfolding pulse_allowed

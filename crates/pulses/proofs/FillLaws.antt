@@ -1,17 +1,28 @@
 -- Storing a list's numbers one after the other into bytes that are lent.
 use mathlib.Core.Path.{◌≡◌, refl, sym, ap, ◌∙◌}
 use mathlib.Core.List.{List, [], ◌∷◌, ◌++◌, append_assoc, append-nil}
-use Prim.Native.Nat.{ℕ, suc, ◌+◌, ◌-◌, ◌<◌, ◌≤◌}
+use Prim.Native.Nat.{ℕ, zero, suc, ◌+◌, ◌-◌, ◌<◌, ◌≤◌}
+use borrow.Rule.Slice.PartMut.{put_mid}
+use native.Mathlib.Nat.{add-zero, add-suc}
 use native.Mathlib.Numerals.{add-one}
 use native.Mathlib.Omega.{arith}
-use lib.ListN.{length, get_or, drop, set, length-append, length-drop, get_or-append}
-use lib.Seq.{drop-cons, set_at, get_or-append-add, get_or-drop, drop-length}
+use lib.ListN.{length, get_or, take, drop, set, length-append, length-drop, get_or-append}
+use lib.Seq.{drop-cons, set_at, get_or-append-add, get_or-drop, drop-length, take_all}
+use Rattle.std.proofs.lemmas.List.{take-append-le, take-append-drop}
+use Rattle.std.proofs.lemmas.Slice.{take-put_mid, drop-put_mid, drop-append-drop}
 use Rattle.pulses.specs.Row.{up_to}
 use Rattle.pulses.proofs.SumLaws.{length_up_to, up_to_at}
 
 -- the bytes after i of the numbers f are stored
 abbrev pub filled_to : (ℕ → ℕ) → List ℕ → ℕ → List ℕ
 filled_to f l i = up_to f i ++ drop i l
+
+-- two parts, one after the other
+up_to_on : (f g : ℕ → ℕ) (a n : ℕ) → ((i : ℕ) → i < n → g i ≡ f (a + i)) → up_to f a ++ up_to g n ≡ up_to f (a + n)
+unfolding up_to
+up_to_on f g a zero h = rw add-zero (append-nil (up_to f a))
+up_to_on f g a (suc n) h =
+    rw (add-suc, ← up_to_on f g a n (λ i k. h i (omega arith)), h n (omega arith)) (sym (append_assoc (up_to f a) (up_to g n) (f (a + n) ∷ [])))
 
 module _ (f : ℕ → ℕ) (l : List ℕ) where
   pub filled_none : l ≡ filled_to f l 0
@@ -41,6 +52,25 @@ module _ (f : ℕ → ℕ) (l : List ℕ) where
       let m : k ≡ length (up_to f i) + (k - i) = omega (arith, length_up_to f i) in
       ap (λ (j : ℕ). get_or (filled_to f l i) j 0) m ∙ get_or-append-add (up_to f i) (drop i l) (k - i) 0 ∙ get_or-drop i l (k - i) 0
       ∙ ap (λ (j : ℕ). get_or l j 0) (sym e)
+
+  -- a part of n more numbers, stored by itself
+  pub filled_part : (now part : List ℕ) (a n k : ℕ) (g : ℕ → ℕ) → now ≡ filled_to f l a → part ≡ up_to g n → k ≡ n → a + n ≤ length l
+      → ((i : ℕ) → i < n → g i ≡ f (a + i)) → put_mid a k now part ≡ filled_to f l (a + n)
+  filled_part now part a n k g e p q h r =
+      let m : length part ≡ n = rw p (length_up_to g n) in
+      let z : length now ≡ length l = ap length e ∙ filled-length a (omega arith) in
+      let all : a ≡ length (up_to f a) = sym (length_up_to f a) in
+      let front : take a now ≡ up_to f a = rw e (take-append-le a (up_to f a) (drop a l) (omega arith) ∙ take_all a (up_to f a) (omega arith)) in
+      let rest : drop (a + n) now ≡ drop (a + n) l = rw e (drop-append-drop a l (up_to f a) (a + n) (omega arith) (length_up_to f a)) in
+      sym (take-append-drop (a + n) (put_mid a k now part))
+      ∙ rw (
+        take-put_mid a k now part (a + n) (omega arith) (omega arith),
+        drop-put_mid a k now part (a + n) (omega arith) (omega arith) (omega arith),
+        front,
+        rest,
+        p,
+        up_to_on f g a n r,
+      )
 
   -- stored to the end
   pub filled-all : (i : ℕ) → i ≡ length l → filled_to f l i ≡ up_to f i

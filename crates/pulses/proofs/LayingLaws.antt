@@ -2,33 +2,35 @@
 use mathlib.Core.Path.{◌≡◌, refl, sym, ap, ◌∙◌}
 use mathlib.Core.Bool.{Bool, true, false, cond, ◌&&◌}
 use mathlib.Core.List.{List}
-use Prim.Native.Nat.{ℕ, zero, suc, ◌+◌, ◌-◌, ◌*◌, ◌/◌, ◌%◌, ◌^◌, ◌<◌, ◌≤◌}
-use native.Mathlib.Nat.{add-zero, div-one}
-use native.Mathlib.Numerals.{add-one}
+use Prim.Native.Nat.{ℕ, ◌+◌, ◌-◌, ◌*◌, ◌/◌, ◌%◌, ◌^◌, ◌<◌, ◌≤◌}
+use native.Mathlib.Nat.{div-one}
 use native.Mathlib.Decide.{dec_lt, ℕ_discrete}
 use native.Mathlib.Omega.{arith}
 use borrow.Author.Tests.{eq-eqb, ne_eqb, lt-leb, le-leb, lt-ltb, le-ltb, ltb-true, ltb-false}
 use lib.Dec.{T, eqb, eqb→eq, leb, leb→le, ltb, ltb→lt}
-use lib.ListN.{length, get_or, set, length-set}
+use lib.ListN.{length, get_or, set}
 use lib.Pow.{shr-shr, field, mod-mod-pow}
 use lib.Seq.{ext_get_or, get_or-set_same, get_or-set_other}
+use Rattle.std.specs.Prelude.{slice_range}
+use Rattle.std.proofs.lemmas.List.Edits.{length-between, get_or-between}
+use borrow.Rule.Slice.PartMut.{put_mid}
 use Rattle.laws.specs.Tests.{below}
 use Rattle.laws.proofs.Tested.{at, and_left, and_right}
 use Rattle.pulses.specs.Row.{groups, first_data, group_of, is_fixed, weight_of, pulse_for, row, fits_in, laid, up_to}
 use Rattle.pulses.specs.Laying.{
   tag_count,
   low_byte,
+  digit_in,
   cell_digit,
   cell_of,
   cells_of,
   picked,
-  stored_from,
   tags_fit,
   tags_row,
   tags_laid,
 }
 use Rattle.pulses.proofs.EntryLaws.{fixed_pulse, pulse_data}
-use Rattle.pulses.proofs.FillLaws.{filled_to, filled_none, filled_more, filled-length, filled_at, filled_past}
+use Rattle.pulses.proofs.FillLaws.{filled_to, filled_none, filled_next, filled_part, filled-length, filled_at, filled_past}
 use Rattle.pulses.proofs.RowLaws.{length-row, pulse_at_lem}
 use Rattle.pulses.proofs.SumLaws.{length_up_to, up_to_at}
 
@@ -37,33 +39,6 @@ by_places : (f : ℕ → ℕ) (n : ℕ) (l : List ℕ) → length l ≡ n → ((
 by_places f n l e h =
     ext_get_or 0 (up_to f n) l (length_up_to f n ∙ sym e)
     (λ i k. let b : i < n = omega (arith, length_up_to f n) in up_to_at f n i b ∙ h i b)
-
--- ---- storing from a place on
-
-module _ (f : ℕ → ℕ) (a : ℕ) (l : List ℕ) where
-  pub stored_none : l ≡ stored_from f a 0 l
-  unfolding stored_from
-  stored_none = refl
-
-  pub stored_more : (now : List ℕ) (i x : ℕ) → now ≡ stored_from f a i l → x ≡ f (a + i) → set now (a + i) x ≡ stored_from f a (i + 1) l
-  unfolding stored_from
-  stored_more now i x e q = rw (add-one, e, q)
-
-  pub stored-length : (n : ℕ) → length (stored_from f a n l) ≡ length l
-  unfolding stored_from
-  stored-length zero = refl
-  stored-length (suc n) = length-set (stored_from f a n l) (a + n) (f (a + n)) ∙ stored-length n
-
--- where the places before are filled, those after are too
-pub stored_filled : (f : ℕ → ℕ) (a n : ℕ) (l : List ℕ) → a + n ≤ length l → stored_from f a n (filled_to f l a) ≡ filled_to f l (a + n)
-unfolding stored_from
-stored_filled f a zero l h = ap (filled_to f l) (sym (add-zero a))
-stored_filled f a (suc n) l h =
-    let e : a + suc n ≡ a + n + 1 = omega arith in
-    rw (stored_filled f a n l (omega arith), e) (filled_more f l (a + n) (omega arith))
-
-pub filled_on : (f : ℕ → ℕ) (a n : ℕ) (l m r : List ℕ) → m ≡ filled_to f l a → r ≡ stored_from f a n m → a + n ≤ length l → r ≡ filled_to f l (a + n)
-filled_on f a n l m r e q h = q ∙ rw e (stored_filled f a n l h)
 
 -- ---- the board
 
@@ -76,7 +51,7 @@ low_digit x k h =
     rw f (mod-mod-pow (x / 2 ^ k) j 1)
 
 -- the digit k of byte i stands in row k
-pub row_digit : (low : List ℕ) (k i : ℕ) → i < groups → get_or low i 0 / 2 ^ k % 2 ≡ cell_digit low (32 * k + i)
+pub row_digit : (low : List ℕ) (k i : ℕ) → i < groups → digit_in low k i ≡ cell_digit low (32 * k + i)
 unfolding cell_digit
 row_digit low k i h =
     let p : (32 * k + i) % 32 ≡ i = omega arith in
@@ -88,8 +63,10 @@ abbrev own : ℕ → ℕ
 own c = c
 
 three_stored : (l : List ℕ) → first_data ≤ length l → set (set (set l 0 0) 1 1) 2 2 ≡ filled_to own l first_data
-unfolding stored_from
-three_stored l h = ap (stored_from own 0 first_data) (filled_none own l) ∙ stored_filled own 0 first_data l h
+three_stored l h =
+    let one = filled_next own l l 0 (filled_none own l) (omega arith) 0 refl in
+    let two = filled_next own l (set l 0 0) 1 one (omega arith) 1 refl in
+    filled_next own l (set (set l 0 0) 1 1) 2 two (omega arith) 2 refl
 
 module _ (v : List ℕ) where
   abbrev low : List ℕ
@@ -125,9 +102,15 @@ module _ (v : List ℕ) where
       let d : cells ≡ up_to (cell_digit low) tag_count = q ∙ ap (λ (l : List ℕ). up_to (cell_digit l) tag_count) e in
       three_stored cells (omega (arith, ap length d, length_up_to (cell_digit low) tag_count)) ∙ ap (λ (l : List ℕ). filled_to own l first_data) d ∙ board
 
-pub length_cells : (v : List ℕ) → length (cells_of v) ≡ tag_count
-unfolding cells_of
-length_cells v = length_up_to (cell_of v) tag_count
+-- the pulses of a part of the tags, picked by themselves, stand after those before
+pub picked_on : (tags cells out now part : List ℕ) (a b n : ℕ) → now ≡ filled_to (picked tags cells) out a
+    → part ≡ up_to (picked (slice_range tags a b) cells) (length (slice_range tags a b)) → a ≤ b → b ≡ n → b ≤ length tags → b ≤ length out
+    → put_mid a (b - a) now part ≡ filled_to (picked tags cells) out n
+picked_on tags cells out now part a b n e p h q k l =
+    let z : a + (b - a) ≡ n = omega arith in
+    filled_part (picked tags cells) out now part a (b - a) (b - a) _ e (rw (length-between tags a b k) at p) refl (omega arith)
+    (λ i m. rw (get_or-between tags a b i 0 (omega arith)))
+    ∙ ap (filled_to (picked tags cells) out) z
 
 -- ---- the bytes laid
 

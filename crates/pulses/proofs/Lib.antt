@@ -13,6 +13,7 @@ pub mod TotalLaws
 pub mod TagLaws
 pub mod PartLaws
 pub mod FillLaws
+pub mod ZipLaws
 pub mod CellLaws
 pub mod BoardLaws
 pub mod LayingLaws

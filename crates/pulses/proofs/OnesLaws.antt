@@ -1,19 +1,17 @@
 -- The count of ones: how it splits, how a change of one pulse changes it, and how a packed word holds it.
 use mathlib.Core.Path.{◌≡◌, refl, sym, ap, ◌∙◌}
-use mathlib.Core.Bool.{true, false}
 use mathlib.Core.List.{List, ◌++◌}
 use Prim.Native.Nat.{ℕ, zero, suc, ◌+◌, ◌-◌, ◌*◌, ◌%◌, ◌^◌, ◌<◌, ◌≤◌}
-use native.Mathlib.Nat.{add-suc, add_assoc, add-zero, pow-succ', le_refl}
-use native.Mathlib.Decide.{ℕ_discrete}
+use native.Mathlib.Nat.{sub-zero, zero-add, add-suc, add_assoc, add-zero, pow-succ', le_refl}
+use native.Mathlib.Decide.{ℕ_discrete, dec_le}
 use native.Mathlib.Numerals.{add-one}
 use native.Mathlib.Omega.{arith}
-use borrow.Author.Tests.{le-leb, leb-true}
+use borrow.Author.Tests.{le-leb, lt-leb}
 use lib.Count as Count
-use lib.Dec.{leb}
-use lib.ListN.{length, get_or, set, get_or-append}
-use lib.Pow.{pow_mono}
+use lib.ListN.{length, get_or, take, set, get_or-append}
 use lib.Seq.{get_or-set_same, get_or-set_other}
-use Rattle.laws.proofs.Bools.{both}
+use Rattle.std.specs.Prelude.{slice_range}
+use Rattle.std.proofs.lemmas.List.Edits.{length-between, get_or-between}
 use Rattle.pulses.specs.Row.{ones_from, sum_from, most_packed, lies_within, ones_of}
 
 -- one pulse more
@@ -43,6 +41,15 @@ ones_same a (suc n) s t h = rw (ones_same a n s t (λ i l. h i (omega arith)), h
 -- what follows the row does not count
 pub ones_front : (a n : ℕ) (s t : List ℕ) → a + n ≤ length s → ones_from a n (s ++ t) ≡ ones_from a n s
 ones_front a n s t h = ones_same a n (s ++ t) s (λ i l. get_or-append s t 0 (a + i) (omega arith))
+
+-- a part that is cut out has its own ones
+pub ones_part : (s : List ℕ) (a b : ℕ) → b ≤ length s → ones_from 0 (length (slice_range s a b)) (slice_range s a b) ≡ ones_from a (b - a) s
+unfolding ones_from
+ones_part s a b h = rw (length-between s a b h) (go (b - a) (le_refl (b - a)))
+  where
+    go : (n : ℕ) → n ≤ b - a → ones_from 0 n (slice_range s a b) ≡ ones_from a n s
+    go zero k = refl
+    go (suc n) k = rw (go n (omega arith), zero-add n, get_or-between s a b n 0 (omega arith))
 
 -- ---- one pulse changed
 
@@ -83,50 +90,65 @@ ones_bit zero h = refl
 ones_bit (suc zero) h = refl
 ones_bit (suc (suc x)) h = absurd (omega arith)
 
--- the word w holds i pulses from place a on
-pub record Packs (a : ℕ) (s : List ℕ) (i w : ℕ) : Type 0 where
+-- the word w holds the first i pulses
+pub record Packs (s : List ℕ) (i w : ℕ) : Type 0 where
   pub small : w < 2 ^ i
-  pub counts : Count.ones w ≡ ones_from a i s
+  pub counts : Count.ones w ≡ ones_from 0 i s
 
-pub packs_none : (a : ℕ) (s : List ℕ) → Packs a s 0 0
+pub packs_none : (s : List ℕ) → Packs s 0 0
 unfolding Count.ones Count.ones_in ones_from
-packs_none a s = record { small = omega arith; counts = refl }
+packs_none s = record { small = omega arith; counts = refl }
 
-module _ (a : ℕ) (s : List ℕ) (i w x : ℕ) (h : Packs a s i w) where
+module _ (s : List ℕ) (i w x : ℕ) (h : Packs s i w) where
   grows : x < 2 → w * 2 + x < 2 ^ (i + 1)
   grows k = rw (add-one, pow-succ' 2 i) (omega (arith, h.small))
 
-  -- a word has room for 63
-  pub packs_room : x < 2 → i < 63 → w * 2 + x < 2 ^ 64
-  packs_room k l = omega (arith, grows k, pow_mono {i = i + 1} {j = 64} (omega arith))
-
-  pub packs_more : x ≡ get_or s (a + i) 0 % 2 → Packs a s (i + 1) (w * 2 + x)
+  pub packs_more : x ≡ get_or s i 0 % 2 → Packs s (i + 1) (w * 2 + x)
   unfolding ones_from
   packs_more b =
       let k : x < 2 = omega arith in
-      record { small = grows k; counts = Count.ones_cat 1 w x k ∙ rw (add-one, ones_bit x k, h.counts, b) }
+      record { small = grows k; counts = Count.ones_cat 1 w x k ∙ rw (add-one, zero-add i, ones_bit x k, h.counts, b) }
 
 -- ---- the part asked for
-
-pub part_lies : (l a n : ℕ) → lies_within l a n ≡ true → (a + n ≤ l) × (n ≤ most_packed)
-unfolding lies_within
-part_lies l a n e =
-    let b = both (leb (a + n) l) (leb n most_packed) e in
-    (leb-true (a + n) l b.0, leb-true n most_packed b.1)
 
 pub ones_of_part : (a n : ℕ) (s : List ℕ) → a + n ≤ length s → n ≤ most_packed → ones_of a n s ≡ ones_from a n s
 unfolding ones_of lies_within
 ones_of_part a n s h k = rw (le-leb (a + n) (length s) h, le-leb n most_packed k)
 
-pub ones_of_none : (a n : ℕ) (s : List ℕ) → lies_within (length s) a n ≡ false → ones_of a n s ≡ 0
-unfolding ones_of
-ones_of_none a n s e = rw e
+pub ones_of_none : (a n : ℕ) (s : List ℕ) → ((a + n ≤ length s) × (n ≤ most_packed) → ⊥) → 0 ≡ ones_of a n s
+unfolding ones_of lies_within
+ones_of_none a n s h = elim (dec_le (a + n) (length s)) [
+  | no k ↦ let l : length s < a + n = omega arith in rw (lt-leb (a + n) (length s) l)
+  | yes k ↦ elim (dec_le n most_packed) [
+    | yes m ↦ absurd (h (k, m))
+    | no m ↦ let l : most_packed < n = omega arith in rw (lt-leb n most_packed l, le-leb (a + n) (length s) k)
+  ]
+]
 
 -- the counts of two parts, m pulses and the others, make up the count asked for
-pub ones_of_two : (a n m x y : ℕ) (s : List ℕ) → m ≤ n → a + n ≤ length s → n ≤ most_packed
-    → x ≡ ones_from a m s → y ≡ ones_from (a + m) (n - m) s
-    → (x + y ≡ ones_of a n s) × (x + y ≤ most_packed)
-ones_of_two a n m x y s h k l p q =
-    let e : m + (n - m) ≡ n = omega arith in
-    let b : x + y ≡ ones_from a n s = rw (p, q) (sym (ones_split a m (n - m) s) ∙ ap (λ (j : ℕ). ones_from a j s) e) in
-    (b ∙ sym (ones_of_part a n s k l), omega (arith, ones_within a n s))
+module _ (s : List ℕ) (a n m : ℕ) (h : m ≤ n) (k : a + n ≤ length s) (l : n ≤ most_packed) where
+  abbrev cut : List ℕ
+  cut = slice_range s a (a + n)
+
+  cut_length : length cut ≡ n
+  cut_length = length-between s a (a + n) k ∙ omega arith
+
+  low : ones_from 0 (length (take m cut)) (take m cut) ≡ ones_from 0 m cut
+  low = rw sub-zero at (ones_part cut 0 m (omega (arith, cut_length)))
+
+  whole : ones_from 0 n cut ≡ ones_from a n s
+  whole =
+      let d : a + n - a ≡ n = omega arith in
+      rw cut_length at (ones_part s a (a + n) k) ∙ ap (λ (j : ℕ). ones_from a j s) d
+
+  both : ones_from 0 m cut + ones_from m (length cut - m) cut ≡ ones_from a n s
+  both =
+      let d : m + (n - m) ≡ n = omega arith in
+      rw cut_length (rw zero-add at (sym (ones_split 0 m (n - m) cut)) ∙ ap (λ (j : ℕ). ones_from 0 j cut) d ∙ whole)
+
+  pub ones_of_two : (x y : ℕ) → x ≡ ones_from 0 (length (take m cut)) (take m cut)
+      → y ≡ ones_from 0 (length (slice_range cut m (length cut))) (slice_range cut m (length cut))
+      → (x + y ≡ ones_of a n s) × (x + y ≤ most_packed)
+  ones_of_two x y p q =
+      let b : x + y ≡ ones_from a n s = rw (p, q, low, ones_part cut m (length cut) (le_refl (length cut))) both in
+      (b ∙ sym (ones_of_part a n s k l), omega (arith, b, ones_within a n s))

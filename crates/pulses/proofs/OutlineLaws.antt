@@ -1,14 +1,14 @@
 -- The outline, place by place, and what a row in outline is.
 use mathlib.Core.Bool.{Bool, true, false, cond, ◌&&◌}
 use mathlib.Core.List.{List, [], ◌∷◌}
-use mathlib.Core.Path.{◌≡◌, refl, ap, ◌∙◌}
-use Prim.Native.Nat.{ℕ, zero, suc, ◌≤◌, ◌<◌}
+use mathlib.Core.Path.{◌≡◌, refl, ap}
+use Prim.Native.Nat.{ℕ, zero, suc, ◌<◌}
 use native.Mathlib.Nat.{not-suc-le-zero, le_of_suc-le-suc}
 use native.Mathlib.Omega.{arith}
 use lib.Dec.{eqb, ltb}
-use lib.ListN.{length, get_or, drop, drop_of_length-le}
-use lib.Seq.{drop-cons}
+use lib.ListN.{length, get_or}
 use borrow.Author.Tests.{eq-eqb, eqb-true, ne_eqb, lt-ltb, le-ltb}
+use Rattle.std.specs.List.{list_all, zip}
 use Rattle.laws.proofs.Bools.{both, never}
 use Rattle.pulses.specs.Row.{marks, first_data, group_of, weight_of, digit_of, pulse_of, pulse_for, row}
 use Rattle.pulses.specs.Outline.{in_outline, outline_of}
@@ -18,20 +18,13 @@ use Rattle.pulses.proofs.EntryLaws.{digit_small}
 abbrev pub outline_at : List ℕ → List ℕ → ℕ → Bool
 outline_at t s i = in_outline (get_or t i 0) (get_or s i 0)
 
-module _ (t s : List ℕ) (i : ℕ) (a : i < length t) (b : i < length s) where
-  split : outline_of (drop i t) (drop i s) ≡ (outline_at t s i && outline_of (drop (suc i) t) (drop (suc i) s))
-  unfolding outline_of
-  split = rw (drop-cons t i 0 a, drop-cons s i 0 b)
-
-  pub outline_more : outline_at t s i ≡ true → outline_of (drop i t) (drop i s) ≡ outline_of (drop (suc i) t) (drop (suc i) s)
-  outline_more e = split ∙ rw e
-
-  pub outline_stops : outline_at t s i ≡ false → outline_of (drop i t) (drop i s) ≡ false
-  outline_stops e = split ∙ rw e
-
-pub outline_ends : (t s : List ℕ) (i : ℕ) → length t ≤ i → length s ≤ i → outline_of (drop i t) (drop i s) ≡ true
+-- of two rows of one length it is the outline of each pair
+pub outline_pairs : (t s : List ℕ) → length s ≡ length t → list_all (λ (p : ℕ × ℕ). in_outline p.0 p.1) (zip t s) ≡ outline_of t s
 unfolding outline_of
-outline_ends t s i a b = rw (drop_of_length-le t {i = i} a, drop_of_length-le s {i = i} b)
+outline_pairs [] [] l = refl
+outline_pairs [] (b ∷ s) l = absurd (omega arith)
+outline_pairs (e ∷ t) [] l = absurd (omega arith)
+outline_pairs (e ∷ t) (b ∷ s) l = ap (λ (x : Bool). in_outline e b && x) (outline_pairs t s (omega arith))
 
 -- a row in outline has the table's length
 pub outline_length : (t s : List ℕ) → outline_of t s ≡ true → length s ≡ length t

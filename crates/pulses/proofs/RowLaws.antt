@@ -10,8 +10,8 @@ use native.Mathlib.Omega.{arith}
 use borrow.Author.Tests.{le-leb, lt-leb}
 use lib.ListN.{length, get_or, take, drop, set, length-append, length-drop, length-set}
 use lib.Seq.{drop-cons, take-suc, set_at, length-take-le, ext_get_or, take-length, get_or-set_same, get_or-set_other, set-append_left}
-use Rattle.pulses.specs.Row.{group_of, weight_of, first_data, digit_of, pulse_of, pulse_for, good_pulses, row, fits_in, laid}
-use Rattle.pulses.proofs.EntryLaws.{pulse_allowed_lem, pulse_data, pulse_for_same, fixed_pulse, data_pulse}
+use Rattle.pulses.specs.Row.{group_of, weight_of, first_data, pulse_for, good_pulses, row, fits_in, laid}
+use Rattle.pulses.proofs.EntryLaws.{pulse_allowed_lem, pulse_data, pulse_for_same}
 
 pub length-row : (t v : List ℕ) → length (row t v) ≡ length t
 unfolding row
@@ -94,17 +94,10 @@ module _ (t v out : List ℕ) where
       )
       (sym (append_assoc (row (take i t) v) (pulse_for (get_or t i 0) v ∷ []) (drop (suc i) out)))
 
-  -- with the pulse as it is worked out: of a group that is fixed, and of one that holds data
-  module _ (now : List ℕ) (i g : ℕ) (e : now ≡ laid_to t v out i) (h : i < length t) (k : i < length out) (p : g ≡ group_of (get_or t i 0)) where
-    stored : (x : ℕ) → x ≡ pulse_of (get_or t i 0) (get_or v g 0) → set now i x ≡ laid_to t v out (i + 1)
-    unfolding pulse_for
-    stored x q = rw (e, q, p) (laid_more i h k)
-
-    pub fixed-stored : g < first_data → set now i g ≡ laid_to t v out (i + 1)
-    fixed-stored f = stored g (p ∙ sym (fixed_pulse (get_or t i 0) (get_or v g 0) (omega arith)))
-
-    pub data-stored : (w x : ℕ) → first_data ≤ g → w ≡ weight_of (get_or t i 0) → x ≡ digit_of (get_or v g 0) w → set now i x ≡ laid_to t v out (i + 1)
-    data-stored w x d q r = stored x (r ∙ rw q (sym (data_pulse (get_or t i 0) (get_or v g 0) (omega arith))))
+  -- the same of bytes that are known to be so laid
+  pub laid_next : (now : List ℕ) (i x : ℕ) → now ≡ laid_to t v out i → i < length t → i < length out
+      → x ≡ pulse_for (get_or t i 0) v → set now i x ≡ laid_to t v out (i + 1)
+  laid_next now i x e h k q = rw (e, q) (laid_more i h k)
 
   pub laid-all : (i : ℕ) → length t ≤ i → i ≤ length t → length t ≤ length out → laid_to t v out i ≡ laid t v out
   unfolding laid fits_in

@@ -1,76 +1,60 @@
 -- One pass over the pulses: what is counted and what is gathered, place by place, and what it comes to where all are good.
-use mathlib.Core.Path.{◌≡◌, ap, ◌∙◌}
+use mathlib.Core.Path.{◌≡◌, sym, ap, ◌∙◌}
 use mathlib.Core.Bool.{true, false}
 use mathlib.Core.List.{List}
 use Prim.Native.Nat.{ℕ, ◌+◌, ◌*◌, ◌%◌, ◌<◌, ◌≤◌, min}
+use native.Mathlib.Decide.{dec_le}
 use native.Mathlib.Omega.{arith}
-use borrow.Author.Tests.{eq-eqb, ne_eqb, lt-ltb, le-ltb}
-use lib.ListN.{length, get_or, take, set, replicate, length-take}
-use lib.Seq.{get_or-take, take_all}
+use lib.ListN.{length, get_or, take, set, replicate}
+use lib.Seq.{take_all}
 use Rattle.pulses.specs.declared.Scan.{Scan}
-use Rattle.pulses.specs.Row.{weights, groups, first_data, most_places, group_of, weight_of, pulse_allowed, good_pulses, sums_of, good_of, scan_of}
-use Rattle.pulses.proofs.EntryLaws.{fixed_allowed, data_allowed}
+use Rattle.pulses.specs.Row.{weights, groups, most_places, group_of, weight_of, pulse_allowed, good_pulses, sums_of, good_of, scan_of}
 use Rattle.pulses.proofs.GoodLaws.{Counted, counted_none, counted-more, counted-stops, counted-ends}
-use Rattle.pulses.proofs.SumLaws.{Gathered, gathered_none, gathered_fixed, gathered_more, gathered_all}
+use Rattle.pulses.proofs.SumLaws.{Gathered, gathered_none, gathered_more, gathered_all}
+use Rattle.pulses.proofs.ZipLaws.{Turn}
 
--- the first i places are good, and v holds what they add
+-- the first i places are good, and v holds what they add; t is what is read of a table
 pub record Passed (t s v : List ℕ) (i : ℕ) : Type 0 where
-  pub counted : Counted (take most_places t) s i
-  pub gathered : Gathered (take most_places t) s v i
+  pub counted : Counted t s i
+  pub gathered : Gathered t s v i
 
-module _ (t s : List ℕ) where
-  pub passed_none : Passed t s (replicate groups 0) 0
-  passed_none = record { counted = counted_none (take most_places t) s; gathered = gathered_none (take most_places t) s }
+pub passed_none : (t s : List ℕ) → Passed t s (replicate groups 0) 0
+passed_none t s = record { counted = counted_none t s; gathered = gathered_none t s }
 
-  ends : (v : List ℕ) (i : ℕ) → Passed t s v i → i ≡ good_of t s → record { good = i; sums = v } ≡ scan_of t s
+-- one pulse more: it is good, and adds x to group g
+pub passed_more : (t s v : List ℕ) (i n e b g x : ℕ) → Passed t s v i → Turn t s i n e b → pulse_allowed e b ≡ true
+    → g ≡ group_of e → x ≡ weight_of e * (b % 2) → x < weights → Passed t s (set v g (get_or v g 0 + x)) n
+passed_more t s v i n e b g x a z p q r m =
+    rw z.more
+    record {
+      counted = counted-more t s i a.counted z.left z.right (rw (← z.first, ← z.second) p);
+      gathered = gathered_more t s v i g x a.gathered z.left z.right (rw (← z.first) q) (rw (← z.first, ← z.second) r) m;
+    }
+
+-- as many places of a table as are read
+pub read_is : (x t : List ℕ) (n : ℕ) → x ≡ take n t → n ≡ min (length t) most_places → x ≡ take most_places t
+read_is x t n e m = elim (dec_le (length t) most_places) [
+  | yes h ↦ e ∙ take_all n t (omega arith) ∙ sym (take_all most_places t h)
+  | no h ↦ let k : n ≡ most_places = omega arith in rw k at e
+]
+
+module _ (t s v : List ℕ) (i j : ℕ) (a : Passed (take most_places t) s v i) (q : j ≡ i) where
+  ends : i ≡ good_of t s → record { good = j; sums = v } ≡ scan_of t s
   unfolding scan_of sums_of
-  ends v i a e =
+  ends e =
       let f : v ≡ sums_of t (take (good_of t s) s) = rw e at (gathered_all (take most_places t) s v i a.gathered) in
-      λ j. record { good = e j; sums = f j }
+      λ k. record { good = (q ∙ e) k; sums = f k }
 
-  -- the table or the row ends
-  pub passed-all : (v : List ℕ) (i : ℕ) → Passed t s v i → min most_places (min (length t) (length s)) ≤ i
-      → record { good = i; sums = v } ≡ scan_of t s
+  -- at a pulse that is not good
+  pub passed_stops : (n e b : ℕ) → Turn (take most_places t) s i n e b → pulse_allowed e b ≡ false
+      → record { good = j; sums = v } ≡ scan_of t s
   unfolding good_of
-  passed-all v i a h = ends v i a (counted-ends (take most_places t) s i a.counted (rw length-take (omega arith)))
+  passed_stops n e b z p = ends (counted-stops (take most_places t) s i a.counted z.left z.right (rw (← z.first, ← z.second) p))
 
-  module _ (v : List ℕ) (i : ℕ) (a : Passed t s v i) (m : i < most_places) (h : i < length t) (k : i < length s) where
-    within : i < length (take most_places t)
-    within = rw length-take (omega arith)
-
-    here : get_or (take most_places t) i 0 ≡ get_or t i 0
-    here = get_or-take most_places t i 0 m
-
-    stops : pulse_allowed (get_or t i 0) (get_or s i 0) ≡ false → record { good = i; sums = v } ≡ scan_of t s
-    unfolding good_of
-    stops e = ends v i a (counted-stops (take most_places t) s i a.counted within k (rw here e))
-
-    more : pulse_allowed (get_or t i 0) (get_or s i 0) ≡ true → Counted (take most_places t) s (i + 1)
-    more e = counted-more (take most_places t) s i a.counted within k (rw here e)
-
-    module _ (g : ℕ) (p : g ≡ group_of (get_or t i 0)) where
-      -- a pulse of a fixed group
-      pub fixed-stops : g < first_data → (get_or s i 0 ≡ g → ⊥) → record { good = i; sums = v } ≡ scan_of t s
-      fixed-stops f d = stops (fixed_allowed (get_or t i 0) (get_or s i 0) (omega arith) ∙ rw (← p) (ne_eqb (get_or s i 0) g d))
-
-      pub fixed_more : g < first_data → get_or s i 0 ≡ g → Passed t s v (i + 1)
-      fixed_more f e =
-          record {
-            counted = more (fixed_allowed (get_or t i 0) (get_or s i 0) (omega arith) ∙ rw (← p) (eq-eqb (get_or s i 0) g e));
-            gathered = gathered_fixed (take most_places t) s v i a.gathered within k (rw here (omega arith));
-          }
-
-      -- a pulse of data, with what it adds
-      pub data-stops : first_data ≤ g → 2 ≤ get_or s i 0 → record { good = i; sums = v } ≡ scan_of t s
-      data-stops d e = stops (data_allowed (get_or t i 0) (get_or s i 0) (omega arith) ∙ le-ltb (get_or s i 0) 2 e)
-
-      pub data-more : first_data ≤ g → get_or s i 0 < 2 → (x : ℕ) → x ≡ weight_of (get_or t i 0) * (get_or s i 0 % 2) → x < weights
-          → Passed t s (set v g (get_or v g 0 + x)) (i + 1)
-      data-more d e x q r =
-          record {
-            counted = more (data_allowed (get_or t i 0) (get_or s i 0) (omega arith) ∙ lt-ltb (get_or s i 0) 2 e);
-            gathered = gathered_more (take most_places t) s v i g x a.gathered within k (rw here p) (rw here q) r;
-          }
+  -- where the table or the row ends
+  pub passed-all : i ≡ min (length (take most_places t)) (length s) → record { good = j; sums = v } ≡ scan_of t s
+  unfolding good_of
+  passed-all h = ends (counted-ends (take most_places t) s i a.counted (omega arith))
 
 -- ---- a table of no more places than are read
 

@@ -11,8 +11,8 @@ use borrow.Author.Tests.{eq-eqb, ne_eqb}
 use lib.Dec.{eqb}
 use lib.ListN.{length, get_or, take, set, replicate, length-append, length-set, get_or-append}
 use lib.Seq.{ext_get_or, get_or_at, get_or-set_same, get_or-set_other, take_all}
-use Rattle.pulses.specs.Row.{weights, groups, first_data, most_places, group_of, weight_of, share_of, sum_of, up_to, sums_of}
-use Rattle.pulses.proofs.EntryLaws.{group_small, fixed_weight}
+use Rattle.pulses.specs.Row.{weights, groups, most_places, group_of, weight_of, share_of, sum_of, up_to, sums_of}
+use Rattle.pulses.proofs.EntryLaws.{group_small}
 
 -- ---- a list by its places
 
@@ -29,6 +29,12 @@ module _ (f : ℕ → ℕ) where
     | yes e ↦ get_or_at (up_to f n) (f n) [] 0 i (length_up_to n ∙ sym e) ∙ ap f (sym e)
     | no d ↦ let l : i < n = omega arith in get_or-append (up_to f n) (f n ∷ []) 0 i (rw length_up_to l) ∙ up_to_at n i l
   ]
+
+  -- a list that has each of the numbers at its place
+  pub up_to_each : (n : ℕ) (l : List ℕ) → length l ≡ n → ((i : ℕ) → i < n → get_or l i 0 ≡ f i) → l ≡ up_to f n
+  up_to_each n l e h =
+      ext_get_or 0 l (up_to f n) (e ∙ sym (length_up_to n))
+      (λ i k. let m : i < n = omega (arith, e) in h i m ∙ sym (up_to_at n i m))
 
 -- ---- the sums
 
@@ -92,19 +98,6 @@ gathered_more t s v i f x a h k p q r =
       long = length-set v f (get_or v f 0 + x) ∙ a.long;
       holds = λ g. rw add-one (omega (arith, added v f x g l, a.holds g, m g));
       small = λ g. omega (arith, added v f x g l, a.small g, at_most (eqb f g) x);
-    }
-
--- a pulse of a fixed group adds nothing
-pub gathered_fixed : (t s v : List ℕ) (i : ℕ) → Gathered t s v i → i < length t → i < length s → group_of (get_or t i 0) < first_data
-    → Gathered t s v (i + 1)
-unfolding share_of
-gathered_fixed t s v i a h k f =
-    let m : (g : ℕ) → sum_of t (take (suc i) s) g ≡ sum_of t (take i s) g + cond (eqb (group_of (get_or t i 0)) g) (0 * (get_or s i 0 % 2)) 0 =
-    λ g. sum-grows t s i g h k ∙ rw (fixed_weight (get_or t i 0) f) in
-    record {
-      long = a.long;
-      holds = λ g. rw add-one (omega (arith, a.holds g, m g, at_most (eqb (group_of (get_or t i 0)) g) (0 * (get_or s i 0 % 2))));
-      small = λ g. omega (arith, a.small g);
     }
 
 -- what is gathered is the list of sums

@@ -1,21 +1,28 @@
 -- What a tag asks of a pulse is what its table asks, and pulses that are looked at sixteen at a time are all looked at.
-use mathlib.Core.Path.{◌≡◌, refl, sym, ap, ◌∙◌}
+use mathlib.Core.Path.{◌≡◌, refl, sym, ap, subst, ◌∙◌}
 use mathlib.Core.Bool.{Bool, true, false, cond, ◌&&◌}
 use mathlib.Core.List.{List, [], ◌∷◌, map}
 use Prim.Native.Nat.{ℕ, zero, suc, ◌+◌, ◌-◌, ◌*◌, ◌/◌, ◌%◌, ◌<◌, ◌≤◌, min}
-use native.Mathlib.Nat.{zero-add, add-zero}
+use native.Mathlib.Nat.{sub-zero, zero-add, add-zero}
 use native.Mathlib.Numerals.{add-one}
 use native.Mathlib.Decide.{dec_lt}
 use native.Mathlib.Omega.{arith}
 use borrow.Author.Tests.{lt-ltb, le-ltb, ltb-true, ltb-false}
 use lib.Dec.{T, eqb, eqb→eq, ltb, leb, leb→le}
-use lib.ListN.{length, get_or, length-map, get_or-map}
+use lib.ListN.{length, get_or, take, drop, length-drop, length-map, get_or-map}
+use lib.Seq.{take_all}
+use Rattle.std.proofs.lemmas.List.{length-take-le, drop-map}
+use Rattle.std.specs.Prelude.{slice_range}
+use Rattle.std.specs.List.{prefix_len, zip}
+use Rattle.std.proofs.lemmas.List.Edits.{length-between, get_or-between}
+use Rattle.laws.specs.Tests.{below}
 use Rattle.laws.proofs.Bools.{both, holds, is_true, never}
 use Rattle.laws.proofs.Tested.{at, and_left, and_right}
 use Rattle.pulses.specs.Row.{groups, first_data, group_of, is_fixed, pulse_allowed, good_pulses}
 use Rattle.pulses.specs.Tags.{entry_of, fit_from, blocks_fit, CountedTo, total, cells_say}
 use Rattle.pulses.proofs.EntryLaws.{fixed_allowed, data_allowed}
-use Rattle.pulses.proofs.GoodLaws.{allowed_at, Counted, counted-more, counted-ends, good_from}
+use Rattle.pulses.proofs.ZipLaws.{Turn}
+use Rattle.pulses.proofs.GoodLaws.{allowed_at, Counted, counted-more, counted-ends, good_from, good_in_table, good_in_row}
 
 -- ---- one tag
 
@@ -32,6 +39,10 @@ module _ (c b : ℕ) where
 
 -- ---- pulses in a row
 
+below_same : (f g : ℕ → Bool) (n : ℕ) → ((i : ℕ) → i < n → f i ≡ g i) → below f n ≡ below g n
+below_same f g zero h = refl
+below_same f g (suc n) h = rw (h n (omega arith), below_same f g n (λ i l. h i (omega arith)))
+
 module _ (tags s : List ℕ) where
   -- what the tag at place i asks
   pub tag_at : (i : ℕ) → allowed_at (map entry_of tags) s i ≡ pulse_allowed (entry_of (get_or tags i 0)) (get_or s i 0)
@@ -42,19 +53,40 @@ module _ (tags s : List ℕ) where
   unfolding fit_from
   fit_none a = refl
 
-  pub fit_more : (a i : ℕ) (g f : Bool) → g ≡ fit_from tags s a i → f ≡ pulse_allowed (entry_of (get_or tags (a + i) 0)) (get_or s (a + i) 0)
-      → (f && g) ≡ fit_from tags s a (i + 1)
+  -- the next of two rows side by side is judged too
+  pub fit_next : (i n c b : ℕ) (f g : Bool) → Turn tags s i n c b → g ≡ fit_from tags s 0 i → f ≡ pulse_allowed (entry_of c) b
+      → (f && g) ≡ fit_from tags s 0 n
   unfolding fit_from
-  fit_more a i g f p q = rw (add-one, p, q)
+  fit_next i n c b f g z p q = rw (z.more, add-one, zero-add i, p, q, z.first, z.second)
+
+  -- the same, where the part that is judged is cut out of both
+  pub fit_part : (a b : ℕ) → a ≤ b → b ≤ length tags → b ≤ length s → (let t = slice_range tags a b in let r = slice_range s a b in
+      fit_from t r 0 (min (length t) (length r)) ≡ fit_from tags s a (b - a))
+  unfolding fit_from
+  fit_part a b h k l =
+      let e : min (length (slice_range tags a b)) (length (slice_range s a b)) ≡ b - a = omega (arith, length-between tags a b k, length-between s a b l) in
+      rw e (below_same _ _ (b - a) (λ i m. rw (zero-add i, get_or-between tags a b i 0 (omega arith), get_or-between s a b i 0 (omega arith))))
+
+  fit_front : (n : ℕ) → n ≤ length tags → n ≤ length s → (let t = take n tags in let r = take n s in
+      fit_from t r 0 (min (length t) (length r)) ≡ fit_from tags s 0 n)
+  fit_front n k l = rw sub-zero at (fit_part 0 n (omega arith) k l)
 
   pub too_few : (n : ℕ) → n < 16 → false ≡ blocks_fit tags s n
   unfolding blocks_fit
   too_few n h = rw (lt-ltb n 16 h)
 
-  pub enough : (n : ℕ) (most last : Bool) → 16 ≤ n → most ≡ fit_from tags s 0 (n / 16 * 16) → last ≡ fit_from tags s (n - 16) 16
+  -- as many sixteens as there are, and the last sixteen
+  pub enough : (n : ℕ) (most last : Bool) → n ≡ length tags → length tags ≡ length s → 16 ≤ n
+      → (let t = take (n / 16 * 16) tags in let r = take (n / 16 * 16) s in most ≡ fit_from t r 0 (min (length t) (length r)))
+      → (let t = slice_range tags (n - 16) (length tags) in let r = slice_range s (n - 16) (length s) in last ≡ fit_from t r 0 (min (length t) (length r)))
       → (most && last) ≡ blocks_fit tags s n
   unfolding blocks_fit
-  enough n most last h p q = rw (le-ltb n 16 h, p, q)
+  enough n most last e l h p q =
+      let d : n - (n - 16) ≡ 16 = omega arith in
+      let k : length s ≡ n = omega arith in
+      let f : last ≡ fit_from tags s (n - 16) 16 = rw (← e, k) at q
+      ∙ fit_part (n - 16) n (omega arith) (omega arith) (omega arith) ∙ ap (fit_from tags s (n - 16)) d in
+      rw (le-ltb n 16 h, f, p ∙ fit_front (n / 16 * 16) (omega arith) (omega arith))
 
   fit_each : (a n : ℕ) → fit_from tags s a n ≡ true → (i : ℕ) → i < n → allowed_at (map entry_of tags) s (a + i) ≡ true
   unfolding fit_from
@@ -62,7 +94,7 @@ module _ (tags s : List ℕ) where
       tag_at (a + i) ∙ is_true _ (at (λ i. pulse_allowed (entry_of (get_or tags (a + i) 0)) (get_or s (a + i) 0)) n (holds _ e) i h)
 
   -- the next n are counted, where all of them are good
-  pub counted_on : (a n : ℕ) → a + n ≤ length tags → a + n ≤ length s → fit_from tags s a n ≡ true → CountedTo tags s a → CountedTo tags s (a + n)
+  counted_on : (a n : ℕ) → a + n ≤ length tags → a + n ≤ length s → fit_from tags s a n ≡ true → CountedTo tags s a → CountedTo tags s (a + n)
   counted_on a n h k e c = go n (omega arith)
     where
       go : (i : ℕ) → i ≤ n → Counted (map entry_of tags) s (a + i)
@@ -71,6 +103,15 @@ module _ (tags s : List ℕ) where
           let m = length-map tags entry_of in
           let z : a + suc i ≡ a + i + 1 = omega arith in
           rw z (counted-more (map entry_of tags) s (a + i) (go i (omega arith)) (omega arith) (omega arith) (fit_each a n e i l))
+
+  -- the next part is counted, where it is cut out and judged
+  pub counted_part : (a b m : ℕ) (f : Bool) → a ≤ b → b ≤ length tags → b ≤ length s → b ≡ m
+      → (let t = slice_range tags a b in let r = slice_range s a b in f ≡ fit_from t r 0 (min (length t) (length r))) → f ≡ true
+      → CountedTo tags s a → CountedTo tags s m
+  counted_part a b m f h k l e p q c =
+      let z : a + (b - a) ≡ m = omega arith in
+      subst (λ (n : ℕ). CountedTo tags s n) z
+      (counted_on a (b - a) (omega arith) (omega arith) (sym (p ∙ fit_part a b h k l) ∙ q) c)
 
   blocks_each : (n : ℕ) → blocks_fit tags s n ≡ true → (i : ℕ) → i < n → allowed_at (map entry_of tags) s i ≡ true
   unfolding blocks_fit
@@ -87,11 +128,58 @@ module _ (tags s : List ℕ) where
   ]
 
   -- all are good
-  pub blocks_good : (n : ℕ) → n ≡ min (length tags) (length s) → blocks_fit tags s n ≡ true → n ≡ good_pulses (map entry_of tags) s
+  blocks_good : (n : ℕ) → n ≡ min (length tags) (length s) → blocks_fit tags s n ≡ true → n ≡ good_pulses (map entry_of tags) s
   blocks_good n m e =
       let l = length-map tags entry_of in
       counted-ends (map entry_of tags) s n
       (good_from (map entry_of tags) s n (omega arith) (omega arith) (blocks_each n e)) (omega arith)
+
+-- one by one: the pairs from the start that fit
+pub good_prefix : (tags s : List ℕ) → prefix_len (λ (e : ℕ × ℕ). pulse_allowed (entry_of e.0) e.1) (zip tags s) ≡ good_pulses (map entry_of tags) s
+unfolding good_pulses
+good_prefix [] s = refl
+good_prefix (c ∷ tags) [] = refl
+good_prefix (c ∷ tags) (b ∷ s) =
+    let next : 1 + good_pulses (map entry_of tags) s ≡ suc (good_pulses (map entry_of tags) s) = omega arith in
+    rw (good_prefix tags s, next)
+
+-- ---- up to the end of the shorter
+
+front_good : (t s : List ℕ) (n : ℕ) → n ≡ min (length t) (length s) → good_pulses (map entry_of (take n t)) (take n s) ≡ good_pulses (map entry_of t) s
+unfolding good_pulses
+front_good [] s n m = let e : n ≡ 0 = omega arith in rw e
+front_good (c ∷ t) [] n m = let e : n ≡ 0 = omega arith in rw e
+front_good (c ∷ t) (b ∷ s) zero m = absurd (omega arith)
+front_good (c ∷ t) (b ∷ s) (suc n) m = rw (front_good t s n (omega arith))
+
+-- the first a are good, and what is left is counted by itself
+rest_good : (t s : List ℕ) (a : ℕ) → CountedTo t s a
+    → a + good_pulses (map entry_of (slice_range t a (length t))) (slice_range s a (length s)) ≡ good_pulses (map entry_of t) s
+rest_good t s a c =
+    let k : length (drop a t) ≤ length t - a = omega (arith, length-drop a t) in
+    let l : length (drop a s) ≤ length s - a = omega (arith, length-drop a s) in
+    rw (take_all (length t - a) (drop a t) k, take_all (length s - a) (drop a s) l, ← drop-map entry_of a t) c
+
+module _ (tags s : List ℕ) (n : ℕ) (m : n ≡ min (length tags) (length s)) where
+  abbrev shown : List ℕ
+  shown = take n tags
+
+  abbrev sent : List ℕ
+  sent = take n s
+
+  pub all_good : (f : Bool) → f ≡ blocks_fit shown sent (length shown) → f ≡ true → n ≡ good_pulses (map entry_of tags) s
+  all_good f p q =
+      let k : length shown ≡ n = length-take-le n tags (omega arith) in
+      let l : length sent ≡ n = length-take-le n s (omega arith) in
+      sym k ∙ blocks_good shown sent (length shown) (omega (arith, k, l)) (sym p ∙ q) ∙ front_good tags s n m
+
+  pub good_on : (a r : ℕ) → CountedTo shown sent a → r ≡ good_pulses (map entry_of (slice_range shown a (length shown))) (slice_range sent a (length sent))
+      → a + r ≡ good_pulses (map entry_of tags) s
+  good_on a r c e = rw e (rest_good shown sent a c) ∙ front_good tags s n m
+
+  pub good_small : (a r : ℕ) → a + r ≡ good_pulses (map entry_of tags) s → a + r ≤ n
+  good_small a r e =
+      omega (arith, e, good_in_table (map entry_of tags) s, good_in_row (map entry_of tags) s, length-map tags entry_of)
 
 -- ---- what eight cells say
 

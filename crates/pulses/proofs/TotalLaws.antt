@@ -2,9 +2,8 @@
 use mathlib.Core.Path.{◌≡◌, refl, sym, ap, ◌∙◌}
 use mathlib.Core.List.{List, [], ◌∷◌}
 use Prim.Native.Nat.{ℕ, zero, suc, ◌+◌, ◌*◌, ◌<◌, min}
-use native.Mathlib.Nat.{le_refl, add-zero, add-suc, add_assoc, zero-add, mul-add, mul-zero}
+use native.Mathlib.Nat.{le_refl, add-zero, zero-add, mul-add, mul-zero}
 use native.Mathlib.Decide.{ℕ_discrete}
-use native.Mathlib.Numerals.{add-one}
 use native.Mathlib.Omega.{arith}
 use lib.ListN.{length, get_or}
 use Rattle.pulses.specs.Row.{share_of, sum_of, up_to}
@@ -13,10 +12,6 @@ use Rattle.pulses.specs.Tags.{total}
 pub total_none : (f : ℕ → ℕ) → total f 0 ≡ 0
 unfolding total
 total_none f = refl
-
-pub total_more : (f : ℕ → ℕ) (n : ℕ) → total f (n + 1) ≡ total f n + f n
-unfolding total
-total_more f n = rw add-one
 
 -- the first place by itself
 pub total_first : (f : ℕ → ℕ) (n : ℕ) → total f (suc n) ≡ f 0 + total (λ i. f (suc i)) n
@@ -76,9 +71,3 @@ pub up_to_same : (f g : ℕ → ℕ) (n : ℕ) → ((i : ℕ) → i < n → f i 
 unfolding up_to
 up_to_same f g zero h = refl
 up_to_same f g (suc n) h = rw (up_to_same f g n (λ i l. h i (omega arith)), h n (le_refl (suc n)))
-
--- two parts, one after the other
-pub total_split : (f : ℕ → ℕ) (a m : ℕ) → total f (a + m) ≡ total f a + total (λ i. f (a + i)) m
-unfolding total
-total_split f a zero = rw (add-zero a) (sym (add-zero (total f a)))
-total_split f a (suc m) = rw (add-suc a m, total_split f a m) (add_assoc (total f a) (total (λ i. f (a + i)) m) (f (a + m)))

@@ -46,10 +46,14 @@ CountedTo tags s i = i + good_pulses (drop i (map entry_of tags)) (drop i s) ≡
 
 -- ---- reading
 
--- the board after the first i pulses are put into the cells of their tags
+-- the board after the first i pulses are put into the cells of their tags, where it was `cells` before
+unfoldable pub cells_put : List ℕ → List ℕ → List ℕ → ℕ → List ℕ
+cells_put cells tags s zero = cells
+cells_put cells tags s (suc i) = set (cells_put cells tags s i) (get_or tags i 0) (get_or s i 0)
+
+-- the same, where no pulse was put into a cell before
 unfoldable pub cells_after : List ℕ → List ℕ → ℕ → List ℕ
-cells_after tags s zero = replicate 256 0
-cells_after tags s (suc i) = set (cells_after tags s i) (get_or tags i 0) (get_or s i 0)
+cells_after tags s i = cells_put (replicate 256 0) tags s i
 
 -- what the eight cells of part k say: a pulse counts by its lowest bit
 unfoldable pub cells_say : List ℕ → ℕ → ℕ

@@ -1,8 +1,10 @@
 // A row of pulses laid by the tags of its table. Every byte is a tag, and has a cell on a board of 256: the board is filled with the
 // digits of all the values, and each place then takes the pulse that stands in the cell of its tag, without a test or a mask.
-ghost use Rattle.std.specs.Prelude.{◌≡◌, ◌+◌, ◌*◌, ◌<◌, ◌≤◌, length};
+ghost use Rattle.std.specs.Prelude.{◌≡◌, ◌<◌, length};
 ghost use Rattle.pulses.specs.Row.{up_to};
-ghost use Rattle.pulses.specs.Laying.{low_byte, cell_digit, cells_of, picked, stored_from, tags_fit, tags_laid};
+ghost use Rattle.pulses.specs.Laying.{low_byte, digit_in, cells_of, picked, tags_fit, tags_laid};
+
+use super::TURN;
 
 // So many values.
 const VALUES: usize = 32;
@@ -10,31 +12,27 @@ const VALUES: usize = 32;
 // So many digits of each have a cell.
 const DIGITS: usize = 8;
 
-// So many pulses a turn, in a loop of known length, of which the compiler makes straight code.
-const TURN: usize = 20;
-
-// The lowest byte of each value.
+// The lowest byte of each value. A `map` was counted at 545 instructions more a row, and by `from_fn` the search did not prove it.
+#[tactic(auto, using(crate::proofs::FillLaws::filled_none, crate::proofs::FillLaws::filled_next))]
 fn low_bytes(values: [u32; 32]) -> [u8; 32]
     ensures { result ≡ up_to (low_byte values) 32 }
 {
     let mut low = [0u8; 32];
-    let mut i = 0;
-    while i < VALUES {
+    for i in 0..VALUES {
         low[i] = (values[i] % 256) as u8;
-        i += 1;
     }
     low
 }
 
 // Stores a row of cells: the digit k of each byte.
-fn store_digits(cells: &mut [u8], low: [u8; 32], k: usize)
-    requires { (k < 8) × (length cells.old ≡ 256) }
-    ensures { cells.new ≡ stored_from (cell_digit low) (32 * k) 32 cells.old }
+#[tactic(auto, using(crate::proofs::FillLaws::filled_none, crate::proofs::FillLaws::filled_next, crate::proofs::FillLaws::filled_whole))]
+fn store_digits(row: &mut [u8], low: &[u8; 32], k: usize)
+    requires { (k < 8) × (length row.old ≡ 32) }
+    ensures { row.new ≡ up_to (digit_in low.now k) 32 }
 {
-    let mut i = 0;
-    while i < VALUES {
-        cells[VALUES * k + i] = (low[i] >> k) % 2;
-        i += 1;
+    // By number: the library says nothing of what is stored through a `zip` of `iter_mut`.
+    for (i, byte) in low.iter().enumerate() {
+        row[i] = (*byte >> k) % 2;
     }
 }
 
@@ -44,10 +42,10 @@ fn cells_of(values: [u32; 32]) -> [u8; 256]
 {
     let low = low_bytes(values);
     let mut cells = [0u8; 256];
-    let mut k = 0;
-    while k < DIGITS {
-        store_digits(&mut cells, low, k);
-        k += 1;
+    // Rows are cut by range, as the proof puts them together by their places.
+    for k in 0..DIGITS {
+        let from = VALUES * k;
+        store_digits(&mut cells[from..from + VALUES], &low, k);
     }
     cells[0] = 0;
     cells[1] = 1;
@@ -55,15 +53,15 @@ fn cells_of(values: [u32; 32]) -> [u8; 256]
     cells
 }
 
-// Stores the pulses of some places: each is looked up by its tag.
-fn pick(out: &mut [u8], tags: &[u8], cells: &[u8], from: usize, count: usize)
-    requires { (from + count ≤ length out.old) × (from + count ≤ length tags.now) × (length cells.now ≡ 256) }
-    ensures { out.new ≡ stored_from (picked tags.now cells.now) from count out.old }
+// Stores the pulses of the tags: each is looked up in the cell of its tag.
+#[tactic(auto, using(crate::proofs::FillLaws::filled_none, crate::proofs::FillLaws::filled_next, crate::proofs::FillLaws::filled_whole))]
+fn pick(out: &mut [u8], tags: &[u8], cells: &[u8; 256])
+    requires { length out.old ≡ length tags.now }
+    ensures { out.new ≡ up_to (picked tags.now cells.now) (length tags.now) }
 {
-    let mut i = 0;
-    while i < count {
-        out[from + i] = cells[tags[from + i] as usize];
-        i += 1;
+    // By number: the library says nothing of what is stored through a `zip` of `iter_mut`.
+    for (i, tag) in tags.iter().enumerate() {
+        out[i] = cells[usize::from(*tag)];
     }
 }
 
@@ -77,11 +75,13 @@ pub fn lay(out: &mut [u8], tags: &[u8], values: [u32; 32]) -> bool
         return false;
     }
     let cells = cells_of(values);
-    let mut i = 0;
-    while TURN <= end - i {
-        pick(out, tags, &cells, i, TURN);
-        i += TURN;
+    // A `for` over the turns divides first, and was counted at nine to eleven instructions more a row.
+    let mut from = 0;
+    while TURN <= end - from {
+        let to = from + TURN;
+        pick(&mut out[from..to], &tags[from..to], &cells);
+        from = to;
     }
-    pick(out, tags, &cells, i, end - i);
+    pick(&mut out[from..end], &tags[from..end], &cells);
     true
 }

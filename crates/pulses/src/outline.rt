@@ -4,6 +4,7 @@ ghost use Rattle.pulses.specs.Outline.{in_outline, outline_of};
 
 use super::group_of;
 
+#[tactic(auto, unfolding(crate::specs::Outline::in_outline))]
 fn in_outline(entry: u32, pulse: u8) -> bool
     ensures { result ≡ in_outline entry pulse }
 {
@@ -17,15 +18,9 @@ fn in_outline(entry: u32, pulse: u8) -> bool
 pub fn outlined(table: &[u32], pulses: &[u8]) -> bool
     ensures { result ≡ outline_of table.now pulses.now }
 {
-    if pulses.len() != table.len() {
-        return false;
-    }
-    let mut i = 0;
-    while i < table.len() {
-        if !in_outline(table[i], pulses[i]) {
-            return false;
-        }
-        i += 1;
-    }
-    true
+    pulses.len() == table.len()
+        && table
+            .iter()
+            .zip(pulses)
+            .all(|(entry, pulse)| in_outline(*entry, *pulse))
 }

@@ -9,9 +9,7 @@ use Rattle.calendar.specs.Calendar.{leap_year, weekday_of, is_month, last_day, i
 use Rattle.laws.proofs.Bools.{both, neither}
 use Rattle.reading.specs.declared.Reading.{Reading}
 use Rattle.reading.specs.declared.Fault.{Fault}
-use Rattle.reading.specs.declared.Verdict.{Verdict}
-use Rattle.reading.specs.declared.Verdict.TheVariants.{Good}
-use Rattle.reading.specs.Faults.{first}
+use Rattle.reading.specs.Faults.{first, Verdict, no_fault}
 use Rattle.reading.specs.Years.{is_base, in_hundred}
 use Rattle.reading.specs.Offset.{offset_good}
 use Rattle.reading.specs.Universal.{date_of, utc_of}
@@ -25,7 +23,7 @@ clash z = absurd (no z)
     no z = omega arith
 
 -- a verdict is good where its condition fails and the rest is good
-pub first_good : (b : Bool) (x : Fault) (v : Verdict) → first b x v ≡ Good → (b ≡ false) × (v ≡ Good)
+pub first_good : (b : Bool) (x : Fault) (v : Verdict) → first b x v ≡ no_fault → (b ≡ false) × (v ≡ no_fault)
 first_good false x v e = (refl, e)
 first_good true x v e = let z : ◌≡◌ {A = ℕ} 0 1 = cc in clash z
 
@@ -52,15 +50,15 @@ unfolding date_bad
 date_good base r e = both (in_hundred base r.year) (is_date (date_of r)) (not-false (in_hundred base r.year && is_date (date_of r)) e)
 
 -- a base and a reading pass where the base is one and the reading alone passes
-pub base_and_sound : (base : ℕ) (r : Reading) → checked_of base r ≡ Good → (is_base base ≡ true) × (sound_of base r ≡ Good)
+pub base_and_sound : (base : ℕ) (r : Reading) → checked_of base r ≡ no_fault → (is_base base ≡ true) × (sound_of base r ≡ no_fault)
 unfolding checked_of
 base_and_sound base r e = let a = first_good (not (is_base base)) _ _ e in (not-false (is_base base) a.0, a.1)
 
-pub sound_checked : (base : ℕ) (r : Reading) → is_base base ≡ true → sound_of base r ≡ Good → checked_of base r ≡ Good
+pub sound_checked : (base : ℕ) (r : Reading) → is_base base ≡ true → sound_of base r ≡ no_fault → checked_of base r ≡ no_fault
 unfolding checked_of
 sound_checked base r b e = rw (b, e)
 
-pub checked_is : (base : ℕ) (r : Reading) → checked_of base r ≡ Good → Checked base r
+pub checked_is : (base : ℕ) (r : Reading) → checked_of base r ≡ no_fault → Checked base r
 unfolding sound_of
 checked_is base r good =
     let bs = base_and_sound base r good in
@@ -83,7 +81,7 @@ checked_is base r good =
       leap = f.0;
     }
 
-pub is_checked : (base : ℕ) (r : Reading) → Checked base r → checked_of base r ≡ Good
+pub is_checked : (base : ℕ) (r : Reading) → Checked base r → checked_of base r ≡ no_fault
 unfolding checked_of sound_of time_bad date_bad
 is_checked base r p =
     rw (

@@ -1,4 +1,3 @@
-pub mod Bits
 pub mod YearLaws
 pub mod OffsetLaws
 pub mod LeapLaws

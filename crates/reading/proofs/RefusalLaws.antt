@@ -1,4 +1,5 @@
 -- A cascade of checks gives the refusal that is due: it goes through objections that stand in order, and stops at the first that holds.
+use Rattle.std.specs.Prelude.{Err, Ok}
 use mathlib.Core.Bool.{Bool, true, false, not, ◌&&◌, ◌||◌}
 use mathlib.Core.List.{List, [], ◌∷◌, ◌++◌}
 use mathlib.Core.Logic.{⊎_elim}
@@ -12,9 +13,7 @@ use Rattle.laws.proofs.Bools.{both, either, or_true, never}
 use Rattle.reading.specs.declared.Refusal.{Refusal}
 use Rattle.reading.specs.declared.Fault.{Fault}
 use Rattle.reading.specs.declared.Fault.TheVariants.{Length}
-use Rattle.reading.specs.declared.Verdict.{Verdict}
-use Rattle.reading.specs.declared.Verdict.TheVariants.{Good, Bad}
-use Rattle.reading.specs.Faults.{code_of, place_of, number, first}
+use Rattle.reading.specs.Faults.{code_of, place_of, number, first, Verdict, no_fault}
 use Rattle.reading.specs.Writing.{and_then}
 use Rattle.reading.specs.Refusals.{order, Objection, objection, stands_at, goes_before, raised, unpreceded, due, quiet, Owed}
 
@@ -26,8 +25,8 @@ as_objection holds fault = objection holds (code_of fault) (place_of fault)
 
 -- the verdict is that of the first of the objections that holds, as they stand in the list
 pub data Through : List Objection → Verdict → Type 0 where
-  none : Through [] Good
-  stops : (x : Fault) (l : List Objection) → Through (as_objection true x ∷ l) (Bad x)
+  none : Through [] no_fault
+  stops : (x : Fault) (l : List Objection) → Through (as_objection true x ∷ l) (Err x)
   passes : (o : Objection) (l : List Objection) (v : Verdict) → o.holds ≡ false → Through l v → Through (o ∷ l) v
 
 as_coded : (b : Bool) (x : Fault) (code place : ℕ) (l : List Objection) (v : Verdict) → code_of x ≡ code → place_of x ≡ place
@@ -37,13 +36,13 @@ as_coded b x code place l v c p t = subst (λ (o : Objection). Through (o ∷ l)
 -- one check more ahead of the others, which has the code and the place of its fault
 pub judged : (b : Bool) (x : Fault) (code place : ℕ) (l : List Objection) (v : Verdict) → code_of x ≡ code → place_of x ≡ place
     → Through l v → Through (objection b code place ∷ l) (first b x v)
-judged true x code place l v c p t = as_coded true x code place l (Bad x) c p (stops x l)
+judged true x code place l v c p t = as_coded true x code place l (Err x) c p (stops x l)
 judged false x code place l v c p t = passes (objection false code place) l v refl t
 
 -- the same in a cascade that other checks come after
 pub judged_then : (b : Bool) (x : Fault) (code place : ℕ) (l : List Objection) (v w : Verdict) → code_of x ≡ code → place_of x ≡ place
     → Through l (and_then v w) → Through (objection b code place ∷ l) (and_then (first b x v) w)
-judged_then true x code place l v w c p t = as_coded true x code place l (Bad x) c p (stops x l)
+judged_then true x code place l v w c p t = as_coded true x code place l (Err x) c p (stops x l)
 judged_then false x code place l v w c p t = passes (objection false code place) l (and_then v w) refl t
 
 pub one_then_other : {l m : List Objection} {v w : Verdict} → Through l v → Through m w → Through (l ++ m) (and_then v w)
@@ -82,10 +81,10 @@ none_before_lem (o ∷ l) x e =
 -- ---- so that a refusal is the one to give, and an answer without one is given where nothing is objected
 
 abbrev Given : List Objection → Verdict → Type 0
-Given l Good = quiet l ≡ true
-Given l (Bad x) = (raised l (number x) ≡ true) × (unpreceded l (number x) ≡ true)
+Given l (Ok done) = quiet l ≡ true
+Given l (Err x) = (raised l (number x) ≡ true) × (unpreceded l (number x) ≡ true)
 
-given_first : (x : Fault) (l : List Objection) → none_before l (number x) ≡ true → Given (as_objection true x ∷ l) (Bad x)
+given_first : (x : Fault) (l : List Objection) → none_before l (number x) ≡ true → Given (as_objection true x ∷ l) (Err x)
 unfolding raised unpreceded number
 given_first x l e = (
   rw (eq-eqb (code_of x) (code_of x) refl, eq-eqb (place_of x) (place_of x) refl),
@@ -94,8 +93,8 @@ given_first x l e = (
 
 given_later : (o : Objection) (l : List Objection) (v : Verdict) → o.holds ≡ false → Given l v → Given (o ∷ l) v
 unfolding quiet raised unpreceded
-given_later o l Good e g = rw (e, g)
-given_later o l (Bad x) e g = (rw (e, g.0), rw (e, g.1))
+given_later o l (Ok done) e g = rw (e, g)
+given_later o l (Err x) e g = (rw (e, g.0), rw (e, g.1))
 
 given : {l : List Objection} {v : Verdict} → Through l v → in_order l ≡ true → Given l v
 unfolding quiet number
@@ -156,16 +155,16 @@ always_at_0 l codes x p no_byte w = owed_at_0 l codes x p w (λ e. never (sym no
 -- ---- what is promised of a verdict, which is what is promised of the answer made of it
 
 abbrev pub VerdictOwed : List Objection → List ℕ → Verdict → Type 0
-VerdictOwed l codes Good = quiet l ≡ true
-VerdictOwed l codes (Bad x) = Owed l codes (number x)
+VerdictOwed l codes (Ok done) = quiet l ≡ true
+VerdictOwed l codes (Err x) = Owed l codes (number x)
 
 pub verdict_owed : {l : List Objection} {v : Verdict} (codes : List ℕ) → Through l v → in_order l ≡ true → coded codes l ≡ true → VerdictOwed l codes v
 unfolding due
 verdict_owed {l} {v} codes t e c = by v (given t e)
   where
     by : (v : Verdict) → Given l v → VerdictOwed l codes v
-    by Good g = g
-    by (Bad x) g = (rw (g.0, g.1), raised_coded codes l (number x) c g.0)
+    by (Ok done) g = g
+    by (Err x) g = (rw (g.0, g.1), raised_coded codes l (number x) c g.0)
 
 -- ---- one objection more ahead of the others
 

@@ -1,5 +1,6 @@
 -- Which stamps are negative. From 2000 on a stamp is the number that it was before L12, before 2000 it lies below zero; and where a reading
 -- is read with the base 2000 its UTC lies before 2000 on 31 December 1999 alone.
+use Rattle.reading.specs.Faults.{no_fault}
 use mathlib.Core.Bool.{true}
 use mathlib.Core.Path.{◌≡◌, refl, ap, ◌∙◌}
 use Prim.Native.Nat.{ℕ, suc, ◌+◌, ◌-◌, ◌*◌, ◌≤◌, ◌<◌}
@@ -11,7 +12,6 @@ use Rattle.calendar.specs.Calendar.{leap_year, days_in, days_before, day_of_year
 use Rattle.calendar.proofs.DateLaws.{Real, real, number_is, number_top, same_number}
 use Rattle.calendar.proofs.WeekdayLaws.{start_number}
 use Rattle.reading.specs.declared.Reading.{Reading}
-use Rattle.reading.specs.declared.Verdict.TheVariants.{Good}
 use Rattle.reading.specs.Universal.{date_of, utc_of}
 use Rattle.reading.specs.Checks.{checked_of}
 use Rattle.reading.specs.Stamps.{day_zero, stamp_is, stamp_of}
@@ -66,7 +66,7 @@ last_day_real : is_date (record { year = 1999; month = 12; day = 31 }) ≡ true
 unfolding is_date is_month is_day last_day days_in leap_year
 last_day_real = refl
 
-pub that_day_alone : (r : Reading) → checked_of 2000 r ≡ Good → (utc_of r).date.year < 2000 → (utc_of r).date ≡ record { year = 1999; month = 12; day = 31 }
+pub that_day_alone : (r : Reading) → checked_of 2000 r ≡ no_fault → (utc_of r).date.year < 2000 → (utc_of r).date ≡ record { year = 1999; month = 12; day = 31 }
 that_day_alone r e h =
     let c = checked_is 2000 r e in
     let u = universal 2000 r c in

@@ -1,4 +1,5 @@
 -- The stamp: what an answer tells, when there is one, and by which codes alone it is refused.
+use Rattle.std.specs.Prelude.{Err, Ok}
 use mathlib.Core.Bool.{Bool, true, false, cond}
 use mathlib.Core.Logic.{◌⊎◌, inl, inr}
 use mathlib.Core.Path.{◌≡◌, refl, sym, ap, ◌∙◌}
@@ -17,33 +18,29 @@ use Rattle.reading.specs.declared.Reading.{Reading}
 use Rattle.reading.specs.declared.Utc.{Utc}
 use Rattle.reading.specs.declared.Fault.{Fault}
 use Rattle.reading.specs.declared.Fault.TheVariants.{OutsideYears}
-use Rattle.reading.specs.declared.Verdict.{Verdict}
-use Rattle.reading.specs.declared.Verdict.TheVariants.{Good, Bad}
-use Rattle.reading.specs.declared.Stamp.{Stamp}
-use Rattle.reading.specs.declared.Stamp.TheVariants.{At, Refused}
-use Rattle.reading.specs.Faults.{number}
+use Rattle.reading.specs.Faults.{number, Verdict, no_fault}
 use Rattle.reading.specs.Universal.{day, utc_of}
 use Rattle.reading.specs.Leap.{last_minute, closes_with_leap, leap_minute, sixty_bad}
 use Rattle.reading.specs.Checks.{checked_of}
-use Rattle.reading.specs.Stamps.{day_zero, has_stamp, count_of, count_zero, stamp_number, stamp_is, stamp_at, unless_bad, stamp_of}
+use Rattle.reading.specs.Stamps.{day_zero, has_stamp, count_of, count_zero, stamp_number, stamp_is, stamp_at, unless_bad, stamp_of, Stamp}
 use Rattle.reading.proofs.CheckLaws.{checked_is, clash}
 use Rattle.reading.proofs.UtcLaws.{universal}
 
 -- a stamp is there exactly where the checks pass and UTC is in the years that have stamps
-good_verdict : (v : Verdict) (a : Stamp) (n : ℤ) → unless_bad v a ≡ stamp_is n → (v ≡ Good) × (a ≡ stamp_is n)
-good_verdict Good a n e = (refl, e)
-good_verdict (Bad x) a n e = let z : ◌≡◌ {A = ℕ} 0 1 = cc in clash z
+good_verdict : (v : Verdict) (a : Stamp) (n : ℤ) → unless_bad v a ≡ stamp_is n → (v ≡ no_fault) × (a ≡ stamp_is n)
+good_verdict (Ok done) a n e = (refl, e)
+good_verdict (Err x) a n e = let z : ◌≡◌ {A = ℕ} 0 1 = cc in clash z
 
 abbrev number_in : Stamp → ℤ
-number_in (At s) = s.0
-number_in (Refused x) = pos 0
+number_in (Ok s) = s.0
+number_in (Err x) = pos 0
 
-stamp_there : (b : Bool) (m n : ℤ) → cond b (stamp_is m) (Refused (number OutsideYears)) ≡ stamp_is n → (b ≡ true) × (n ≡ m)
+stamp_there : (b : Bool) (m n : ℤ) → cond b (stamp_is m) (Err (number OutsideYears)) ≡ stamp_is n → (b ≡ true) × (n ≡ m)
 stamp_there true m n e = (refl, sym (ap number_in e))
 stamp_there false m n e = let z : ◌≡◌ {A = ℕ} 0 1 = cc in clash z
 
 pub record Stamped (base : ℕ) (r : Reading) (v : ℤ) : Type 0 where
-  pub checked : checked_of base r ≡ Good
+  pub checked : checked_of base r ≡ no_fault
   pub year : has_stamp (utc_of r).date.year ≡ true
   pub value : v ≡ stamp_number (utc_of r) r.second
 
@@ -59,11 +56,11 @@ unfolding stamp_of stamp_at
 is_stamp base r v p = rw (p.checked, p.year, p.value)
 
 -- a reading that passes the shared checks is refused by 12 alone
-pub refused_by_12 : (base : ℕ) (r : Reading) → checked_of base r ≡ Good → has_stamp (utc_of r).date.year ≡ false → stamp_of base r ≡ Refused (number OutsideYears)
+pub refused_by_12 : (base : ℕ) (r : Reading) → checked_of base r ≡ no_fault → has_stamp (utc_of r).date.year ≡ false → stamp_of base r ≡ Err (number OutsideYears)
 unfolding stamp_of stamp_at
 refused_by_12 base r e h = rw (e, h)
 
-pub refused_by_fault : (base : ℕ) (r : Reading) (x : Fault) → checked_of base r ≡ Bad x → stamp_of base r ≡ Refused (number x)
+pub refused_by_fault : (base : ℕ) (r : Reading) (x : Fault) → checked_of base r ≡ Err x → stamp_of base r ≡ Err (number x)
 unfolding stamp_of
 refused_by_fault base r x e = rw e
 

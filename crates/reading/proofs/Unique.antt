@@ -12,10 +12,8 @@ use Rattle.reading.proofs.LocalMinusUtc.added.Kinds as added-kinds
 use Rattle.reading.proofs.LocalMinusUtc.added.Reads as added-reads
 use Rattle.reading.proofs.AddedToLocal.local.Kinds as local-kinds
 use Rattle.reading.proofs.AddedToLocal.local.Reads as local-reads
-use Rattle.reading.proofs.faults.refusal_of.Kinds as refusal-of-kinds
-use Rattle.reading.proofs.faults.refusal_of.Reads as refusal-of-reads
-use Rattle.reading.proofs.faults.written.Kinds as written-kinds
-use Rattle.reading.proofs.faults.written.Reads as written_reads
+use Rattle.reading.proofs.faults.RefusalFromFault.from.Kinds as refusal-of-kinds
+use Rattle.reading.proofs.faults.RefusalFromFault.from.Reads as refusal-of-reads
 use Rattle.reading.proofs.years.in_hundred.Kinds as in-hundred-kinds
 use Rattle.reading.proofs.years.in_hundred.Reads as in-hundred-reads
 use Rattle.reading.proofs.years.year_of.Kinds as year-of-kinds
@@ -70,6 +68,11 @@ use Rattle.reading.proofs.Since2000.is_before.Kinds as is-before-kinds
 use Rattle.reading.proofs.Since2000.is_before.Reads as is-before-reads
 use Rattle.reading.proofs.Since2000.distance.Kinds as distance-kinds
 use Rattle.reading.proofs.Since2000.distance.Reads as distance-reads
+use Rattle.reading.proofs.Reading.date.Kinds as date-kinds
+use Rattle.reading.proofs.Reading.date.Reads as date-reads
+
+pub date_one : Coincide 0 date-kinds.ps date-kinds.r date-reads.Post
+date_one κs a x y e f p q = cc
 
 pub same_offset_one : Coincide 0 same-offset-kinds.ps same-offset-kinds.r same-offset-reads.Post
 same_offset_one κs a x y e f p q = cc
@@ -160,9 +163,6 @@ weekday_wrong_one κs a x y e f p q = cc
 
 pub stamp_of_one : Coincide 0 stamp-of-kinds.ps stamp-of-kinds.r stamp-of-reads.Post
 stamp_of_one κs a x y e f p q = cc
-
-pub written_one : Coincide 0 written-kinds.ps written-kinds.r written_reads.Post
-written_one κs a x y e f p q = cc
 
 pub is_base_one : Coincide 0 is-base-kinds.ps is-base-kinds.r is-base-reads.Post
 is_base_one κs a x y e f p q = cc

@@ -5,9 +5,7 @@ use Rattle.calendar.specs.declared.Date.{Date}
 use Rattle.calendar.specs.Calendar.{leap_year, weekday_of, is_month, is_day, is_date}
 use Rattle.reading.specs.declared.Reading.{Reading}
 use Rattle.reading.specs.declared.Fault.TheVariants.{Time, Date as BadDate, QualityOrHead, Offset, LeapSecond, OtherBase}
-use Rattle.reading.specs.declared.Verdict.{Verdict}
-use Rattle.reading.specs.declared.Verdict.TheVariants.{Good}
-use Rattle.reading.specs.Faults.{first}
+use Rattle.reading.specs.Faults.{first, Verdict, no_fault}
 use Rattle.reading.specs.Years.{is_base, in_hundred}
 use Rattle.reading.specs.Offset.{offset_good}
 use Rattle.reading.specs.Universal.{date_of, utc_of}
@@ -42,7 +40,7 @@ quality_bad q = ltb 15 q
 -- the fault whose code comes first; "Writers keep place 0"
 abbrev pub first_fault : Bool → Bool → Bool → Bool → Bool → Verdict
 first_fault time date quality offset sixty =
-    first time (Time 0) (first date (BadDate 0) (first quality (QualityOrHead 0) (first offset (Offset 0) (first sixty (LeapSecond 0) Good))))
+    first time (Time 0) (first date (BadDate 0) (first quality (QualityOrHead 0) (first offset (Offset 0) (first sixty (LeapSecond 0) no_fault))))
 
 -- the first fault of a reading, beside whatever base: "year outside the base's hundred is 16"
 unfoldable pub sound_of : ℕ → Reading → Verdict

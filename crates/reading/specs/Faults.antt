@@ -1,5 +1,5 @@
 -- What can be wrong, and the number and place that document 01 gives for it, as amended by L5, L8 and L12.
-use Rattle.std.specs.Prelude.{Bool, true, false, ℕ}
+use Rattle.std.specs.Prelude.{Bool, true, false, ℕ, Result, Ok, Err, ⊤}
 use Rattle.reading.specs.declared.Refusal.{Refusal}
 use Rattle.reading.specs.declared.Fault.{Fault}
 use Rattle.reading.specs.declared.Fault.TheVariants.{
@@ -22,8 +22,6 @@ use Rattle.reading.specs.declared.Fault.TheVariants.{
   CutShort,
   UnknownKind,
 }
-use Rattle.reading.specs.declared.Verdict.{Verdict}
-use Rattle.reading.specs.declared.Verdict.TheVariants.{Bad}
 
 -- the table of refusal numbers; by L5 what was 5 is "15 for a time field, 16 for a date field, a weekday out of range or a day that
 -- month lacks, 17 for quality or head"; by L8 18 is for a rule of summer time, and 12 also for a named minute outside the hundred years;
@@ -74,7 +72,14 @@ place_of UnknownKind = 0
 unfoldable pub number : Fault → Refusal
 number fault = record { code = code_of fault; place = place_of fault }
 
+-- what checks find: nothing, or the first fault
+abbrev pub Verdict : Type 0
+Verdict = Result ⊤ Fault
+
+abbrev pub no_fault : Verdict
+no_fault = Ok (record {})
+
 -- the fault, if its condition holds, before whatever comes after it
 abbrev pub first : Bool → Fault → Verdict → Verdict
-first true fault rest = Bad fault
+first true fault rest = Err fault
 first false fault rest = rest

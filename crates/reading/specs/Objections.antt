@@ -1,16 +1,13 @@
 -- What can be wrong with a base, and with a reading that is to be written or stamped, with code and place: "Writers keep place 0."
-use Rattle.std.specs.Prelude.{Bool, true, not, List, [], ◌∷◌, ◌++◌, ◌≡◌, ℕ}
+use Rattle.reading.specs.Writing.{Written}
+use Rattle.std.specs.Prelude.{Bool, true, not, List, [], ◌∷◌, ◌++◌, ◌≡◌, ℕ, Err, Ok}
 use Rattle.reading.specs.declared.Reading.{Reading}
-use Rattle.reading.specs.declared.Stamp.{Stamp}
-use Rattle.reading.specs.declared.Stamp.TheVariants.{At, Refused}
-use Rattle.reading.specs.declared.Written.{Written}
-use Rattle.reading.specs.declared.Written.TheVariants.{Length, No}
 use Rattle.reading.specs.Years.{is_base}
 use Rattle.reading.specs.Offset.{offset_good}
 use Rattle.reading.specs.Universal.{utc_of}
 use Rattle.reading.specs.Leap.{sixty_bad}
 use Rattle.reading.specs.Checks.{time_bad, date_bad, quality_bad}
-use Rattle.reading.specs.Stamps.{has_stamp}
+use Rattle.reading.specs.Stamps.{has_stamp, Stamp}
 use Rattle.reading.specs.Refusals.{Objection, objection, quiet, Owed}
 
 -- another base than the two
@@ -43,9 +40,9 @@ stamp_codes = 19 ∷ 15 ∷ 16 ∷ 17 ∷ 8 ∷ 9 ∷ 12 ∷ []
 -- ---- what is promised of an answer: where there is a stamp, or a writer wrote, nothing was objected, and a refusal is the one to give
 
 abbrev pub StampOwed : List Objection → List ℕ → Stamp → Type 0
-StampOwed objections codes (At stamp) = quiet objections ≡ true
-StampOwed objections codes (Refused x) = Owed objections codes x
+StampOwed objections codes (Ok stamp) = quiet objections ≡ true
+StampOwed objections codes (Err x) = Owed objections codes x
 
 abbrev pub WrittenOwed : List Objection → List ℕ → Written → Type 0
-WrittenOwed objections codes (Length n) = quiet objections ≡ true
-WrittenOwed objections codes (No x) = Owed objections codes x
+WrittenOwed objections codes (Ok n) = quiet objections ≡ true
+WrittenOwed objections codes (Err x) = Owed objections codes x

@@ -1,16 +1,14 @@
 -- The stamp of a reading.
-use Rattle.std.specs.Prelude.{Bool, cond, ◌&&◌, ℕ, ◌+◌, ◌*◌, leb, ℤ}
+use Rattle.std.specs.Prelude.{Bool, cond, ◌&&◌, ℕ, ◌+◌, ◌*◌, leb, ℤ, Result, Err, Ok}
 use Rattle.std.proofs.Math.IntN.{sub_ℕ}
 use Rattle.calendar.specs.declared.Date.{Date}
 use Rattle.calendar.specs.Calendar.{day_number}
 use Rattle.reading.specs.declared.Reading.{Reading}
 use Rattle.reading.specs.declared.Utc.{Utc}
 use Rattle.reading.specs.declared.Fault.TheVariants.{OutsideYears}
-use Rattle.reading.specs.declared.Verdict.{Verdict}
-use Rattle.reading.specs.declared.Verdict.TheVariants.{Good, Bad}
-use Rattle.reading.specs.declared.Stamp.{Stamp}
-use Rattle.reading.specs.declared.Stamp.TheVariants.{At, Refused}
-use Rattle.reading.specs.Faults.{number}
+use Rattle.reading.specs.declared.Since2000.{Since2000}
+use Rattle.reading.specs.declared.Refusal.{Refusal}
+use Rattle.reading.specs.Faults.{number, Verdict}
 use Rattle.reading.specs.Universal.{utc_of}
 use Rattle.reading.specs.Checks.{checked_of}
 
@@ -35,16 +33,20 @@ count_zero = count_of (record { date = day_zero; minute = 0 }) 0
 unfoldable pub stamp_number : Utc → ℕ → ℤ
 stamp_number u s = sub_ℕ (count_of u s) count_zero
 
+-- what stamping answers: the stamp, or why there is none
+abbrev pub Stamp : Type 0
+Stamp = Result Since2000 Refusal
+
 -- the answer that is this stamp
 abbrev pub stamp_is : ℤ → Stamp
-stamp_is z = At (record { 0 = z })
+stamp_is z = Ok (record { 0 = z })
 
 unfoldable pub stamp_at : Utc → ℕ → Stamp
-stamp_at u s = cond (has_stamp u.date.year) (stamp_is (stamp_number u s)) (Refused (number OutsideYears))
+stamp_at u s = cond (has_stamp u.date.year) (stamp_is (stamp_number u s)) (Err (number OutsideYears))
 
 abbrev pub unless_bad : Verdict → Stamp → Stamp
-unless_bad Good a = a
-unless_bad (Bad fault) a = Refused (number fault)
+unless_bad (Ok done) a = a
+unless_bad (Err fault) a = Err (number fault)
 
 -- the stamp of a reading, read with this base
 unfoldable pub stamp_of : ℕ → Reading → Stamp

@@ -7,7 +7,7 @@ ghost use Rattle.reading.specs.Checks.{hour_bad, minute_bad, second_bad, time_ba
 use super::leap::{ends_day, leap_minute};
 use super::universal::{on_day, utc_minutes};
 use super::years::{in_hundred, is_base};
-use super::{Fault, Reading, Verdict};
+use super::{Fault, Reading};
 use calendar::Date;
 use calendar::days::weekday;
 use calendar::months::{is_date, is_day, is_leap};
@@ -30,6 +30,7 @@ pub fn second_bad(second: u8) -> bool
     60 < second
 }
 
+#[tactic(auto, unfolding(crate::specs::Checks::time_bad))]
 pub fn time_bad(r: Reading) -> bool
     ensures { result ≡ time_bad r }
 {
@@ -43,15 +44,11 @@ pub fn no_day(base: u16, date: Date) -> bool
     !(in_hundred(base, date.year) & is_date(date))
 }
 
+#[tactic(auto, unfolding(crate::specs::Checks::date_bad))]
 pub fn date_bad(base: u16, r: Reading) -> bool
     ensures { result ≡ date_bad base r }
 {
-    let date = Date {
-        year: r.year,
-        month: r.month,
-        day: r.day,
-    };
-    no_day(base, date)
+    no_day(base, r.date())
 }
 
 pub fn quality_bad(quality: u8) -> bool
@@ -62,53 +59,51 @@ pub fn quality_bad(quality: u8) -> bool
 
 // Of a second 60 at so many minutes from the start of the day before a date. That date's neighbours are looked for only where the minute
 // is the last of a day.
+#[tactic(auto, using(crate::proofs::LeapLaws::no_leap))]
 fn sixty_bad(date: Date, minutes: u16) -> bool
     ensures { result ≡ not (leap_minute (on_day date minutes)) }
 {
-    if !ends_day(minutes) {
-        return true;
-    }
-    !leap_minute(on_day(date, minutes))
+    !ends_day(minutes) || !leap_minute(on_day(date, minutes))
 }
 
 // UTC is worked out only where the second is 60.
+#[tactic(auto, unfolding(crate::specs::Leap::sixty_bad, crate::specs::Universal::utc_of))]
 pub fn leap_second_bad(r: Reading) -> bool
     ensures { result ≡ sixty_bad (utc_of r) r.second }
 {
-    if r.second != 60 {
-        return false;
-    }
-    let date = Date {
-        year: r.year,
-        month: r.month,
-        day: r.day,
-    };
-    sixty_bad(date, utc_minutes(r.hour, r.minute, r.offset))
+    r.second == 60 && sixty_bad(r.date(), utc_minutes(r.hour, r.minute, r.offset))
 }
 
-pub fn first_fault(time: bool, date: bool, quality: bool, offset: bool, sixty: bool) -> Verdict
+pub fn first_fault(
+    time: bool,
+    date: bool,
+    quality: bool,
+    offset: bool,
+    sixty: bool,
+) -> Result<(), Fault>
     ensures { result ≡ first_fault time date quality offset sixty }
 {
     if time {
-        return Verdict::Bad(Fault::Time(0));
+        return Err(Fault::Time(0));
     }
     if date {
-        return Verdict::Bad(Fault::Date(0));
+        return Err(Fault::Date(0));
     }
     if quality {
-        return Verdict::Bad(Fault::QualityOrHead(0));
+        return Err(Fault::QualityOrHead(0));
     }
     if offset {
-        return Verdict::Bad(Fault::Offset(0));
+        return Err(Fault::Offset(0));
     }
     if sixty {
-        return Verdict::Bad(Fault::LeapSecond(0));
+        return Err(Fault::LeapSecond(0));
     }
-    Verdict::Good
+    Ok(())
 }
 
 // A reading alone, for a writer that has asked for the base before.
-pub fn sound(base: u16, r: Reading) -> Verdict
+#[tactic(auto, unfolding(crate::specs::Checks::sound_of))]
+pub fn sound(base: u16, r: Reading) -> Result<(), Fault>
     ensures { result ≡ sound_of base r }
 {
     let offset = r.offset;
@@ -121,16 +116,18 @@ pub fn sound(base: u16, r: Reading) -> Verdict
     )
 }
 
-pub fn checked(base: u16, r: Reading) -> Verdict
+#[tactic(auto, unfolding(crate::specs::Checks::checked_of))]
+pub fn checked(base: u16, r: Reading) -> Result<(), Fault>
     ensures { result ≡ checked_of base r }
 {
-    if is_base(base) {
-        return sound(base, r);
+    if !is_base(base) {
+        return Err(Fault::OtherBase);
     }
-    Verdict::Bad(Fault::OtherBase)
+    sound(base, r)
 }
 
 // The month has no such day.
+#[tactic(auto, unfolding(crate::specs::Checks::day_bad))]
 pub fn day_bad(r: Reading) -> bool
     ensures { result ≡ day_bad r }
 {
@@ -138,13 +135,9 @@ pub fn day_bad(r: Reading) -> bool
 }
 
 // The weekday that is said is not that of the date.
+#[tactic(auto, unfolding(crate::specs::Checks::weekday_wrong))]
 pub fn weekday_wrong(r: Reading, said: u32) -> bool
     ensures { result ≡ weekday_wrong r said }
 {
-    let date = Date {
-        year: r.year,
-        month: r.month,
-        day: r.day,
-    };
-    said != weekday(date) as u32
+    said != u32::from(weekday(r.date()))
 }

@@ -1,75 +1,71 @@
-// The number and place of a fault, and what a writer answers.
+// The number and place of a fault: the refusal that it makes.
 ghost use Rattle.std.specs.Prelude.{◌≡◌};
 ghost use Rattle.reading.specs.Faults.{code_of, place_of, number};
-ghost use Rattle.reading.specs.Writing.{written_of};
 
-use super::{Fault, Refusal, Verdict, Written};
+use super::{Fault, Refusal};
 
-fn code_of(fault: Fault) -> u8
-    ensures { result ≡ code_of fault }
-{
-    match fault {
-        Fault::Length => 1,
-        Fault::Byte(_) => 2,
-        Fault::Digit(_) => 3,
-        Fault::Parity(_) => 4,
-        Fault::Time(_) => 15,
-        Fault::Date(_) => 16,
-        Fault::QualityOrHead(_) => 17,
-        Fault::Weekday(_) => 6,
-        Fault::SecondOfDay(_) => 7,
-        Fault::Offset(_) => 8,
-        Fault::LeapSecond(_) => 9,
-        Fault::Deletion(_) => 10,
-        Fault::NotCarried => 11,
-        Fault::OutsideYears => 12,
-        Fault::SummerRule => 18,
-        Fault::OtherBase => 19,
-        Fault::CutShort => 13,
-        Fault::UnknownKind => 14,
+impl Fault {
+    fn code(self) -> u8
+        ensures { result ≡ code_of self }
+    {
+        match self {
+            Fault::Length => 1,
+            Fault::Byte(_) => 2,
+            Fault::Digit(_) => 3,
+            Fault::Parity(_) => 4,
+            Fault::Time(_) => 15,
+            Fault::Date(_) => 16,
+            Fault::QualityOrHead(_) => 17,
+            Fault::Weekday(_) => 6,
+            Fault::SecondOfDay(_) => 7,
+            Fault::Offset(_) => 8,
+            Fault::LeapSecond(_) => 9,
+            Fault::Deletion(_) => 10,
+            Fault::NotCarried => 11,
+            Fault::OutsideYears => 12,
+            Fault::SummerRule => 18,
+            Fault::OtherBase => 19,
+            Fault::CutShort => 13,
+            Fault::UnknownKind => 14,
+        }
+    }
+
+    // 0 where a fault has none of its own.
+    fn place(self) -> usize
+        ensures { result ≡ place_of self }
+    {
+        match self {
+            Fault::Byte(place)
+            | Fault::Digit(place)
+            | Fault::Parity(place)
+            | Fault::Time(place)
+            | Fault::Date(place)
+            | Fault::QualityOrHead(place)
+            | Fault::Weekday(place)
+            | Fault::SecondOfDay(place)
+            | Fault::Offset(place)
+            | Fault::LeapSecond(place)
+            | Fault::Deletion(place) => place,
+            Fault::Length
+            | Fault::NotCarried
+            | Fault::OutsideYears
+            | Fault::SummerRule
+            | Fault::OtherBase
+            | Fault::CutShort
+            | Fault::UnknownKind => 0,
+        }
     }
 }
 
-fn place_of(fault: Fault) -> usize
-    ensures { result ≡ place_of fault }
-{
-    match fault {
-        Fault::Length => 0,
-        Fault::Byte(place) => place,
-        Fault::Digit(place) => place,
-        Fault::Parity(place) => place,
-        Fault::Time(place) => place,
-        Fault::Date(place) => place,
-        Fault::QualityOrHead(place) => place,
-        Fault::Weekday(place) => place,
-        Fault::SecondOfDay(place) => place,
-        Fault::Offset(place) => place,
-        Fault::LeapSecond(place) => place,
-        Fault::Deletion(place) => place,
-        Fault::NotCarried => 0,
-        Fault::OutsideYears => 0,
-        Fault::SummerRule => 0,
-        Fault::OtherBase => 0,
-        Fault::CutShort => 0,
-        Fault::UnknownKind => 0,
-    }
-}
+// By which `?` makes a refusal of a fault.
+impl From<Fault> for Refusal {
+    ghost from_gives = { λ fault refusal. refusal ≡ number fault };
 
-pub fn refusal_of(fault: Fault) -> Refusal
-    ensures { result ≡ number fault }
-{
-    Refusal {
-        code: code_of(fault),
-        place: place_of(fault),
-    }
-}
-
-// The answer of a writer that found this verdict on what it was given, and whose format has this length.
-pub fn written(verdict: Verdict, length: usize) -> Written
-    ensures { result ≡ written_of verdict length }
-{
-    match verdict {
-        Verdict::Good => Written::Length(length),
-        Verdict::Bad(fault) => Written::No(refusal_of(fault)),
+    #[tactic(auto, unfolding(crate::specs::Faults::number))]
+    fn from(fault: Fault) -> Self {
+        Refusal {
+            code: fault.code(),
+            place: fault.place(),
+        }
     }
 }

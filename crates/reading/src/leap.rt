@@ -18,41 +18,43 @@ fn month_end(date: Date) -> u8
     days_in(is_leap(date.year), date.month)
 }
 
+#[tactic(auto, unfolding(crate::specs::Leap::closes_with_leap))]
 pub fn closes_with_leap(date: Date) -> bool
     ensures { result ≡ closes_with_leap date }
 {
     date.day == month_end(date)
 }
 
+#[tactic(auto, unfolding(crate::specs::Leap::leap_minute))]
 pub(crate) fn leap_minute(utc: Utc) -> bool
     ensures { result ≡ leap_minute utc }
 {
-    let date = utc.date;
-    if utc.minute != LAST_MINUTE {
-        return false;
-    }
-    closes_with_leap(date)
+    utc.minute == LAST_MINUTE && closes_with_leap(utc.date)
 }
 
 // So many minutes from the start of a day come to a 23:59.
+#[tactic(auto, unfolding(crate::specs::Leap::ends_day))]
 pub(crate) fn ends_day(minutes: u16) -> bool
     ensures { result ≡ ends_day minutes }
 {
     minutes % DAY == LAST_MINUTE
 }
 
+#[tactic(auto, unfolding(crate::specs::Leap::within_minute))]
 fn within_minute(second: u8) -> bool
     ensures { result ≡ within_minute second }
 {
-    (1 <= second) & (second <= 59)
+    (1..=59).contains(&second)
 }
 
+#[tactic(auto, unfolding(crate::specs::Leap::leap_window))]
 pub fn leap_window(utc: Utc, second: u8) -> bool
     ensures { result ≡ leap_window utc second }
 {
     leap_minute(utc) & within_minute(second)
 }
 
+#[tactic(auto, unfolding(crate::specs::Leap::change_window))]
 pub fn change_window(minute: u8, second: u8) -> bool
     ensures { result ≡ change_window minute second }
 {
@@ -60,15 +62,10 @@ pub fn change_window(minute: u8, second: u8) -> bool
 }
 
 // Before a first is the last day of a month; a later day has its month's last before it only where it is none of the calendar.
+#[tactic(auto, unfolding(crate::specs::Leap::after_leap), using(crate::proofs::LeapLaws::closed_before_first, crate::proofs::LeapLaws::closed_before_later))]
 pub fn after_leap(utc: Utc) -> bool
     ensures { result ≡ after_leap utc }
 {
     let date = utc.date;
-    if utc.minute != 0 {
-        return false;
-    }
-    if date.day <= 1 {
-        return true;
-    }
-    date.day - 1 == month_end(date)
+    utc.minute == 0 && (date.day <= 1 || date.day - 1 == month_end(date))
 }

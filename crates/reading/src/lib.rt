@@ -3,6 +3,11 @@
 // stamping refuses one that is neither of the two, as every reader and every writer does.
 #![tactic(auto)]
 
+ghost use Rattle.std.specs.Prelude.{◌≡◌};
+ghost use Rattle.reading.specs.Universal.{date_of};
+
+use calendar::Date;
+
 pub mod checks;
 pub mod faults;
 pub mod leap;
@@ -12,16 +17,16 @@ pub mod universal;
 pub mod years;
 
 // Local time minus UTC, in quarter hours: what strings and readings say.
-#[derive(Clone, Copy)]
+#[derive(Clone, Copy, Debug, PartialEq, Eq)]
 pub struct LocalMinusUtc(pub i8);
 
 // What is added to local time to give UTC, in quarter hours too: the sense of IEEE 1344. Wider, so that every offset has its
 // opposite.
-#[derive(Clone, Copy)]
+#[derive(Clone, Copy, Debug, PartialEq, Eq)]
 pub struct AddedToLocal(pub i16);
 
 // A clock's time. Every value of it is legal; which values are a time is said by `checks::checked`.
-#[derive(Clone, Copy)]
+#[derive(Clone, Copy, Debug, PartialEq, Eq)]
 pub struct Reading {
     pub year: u16,
     pub month: u8,
@@ -39,15 +44,28 @@ pub struct Reading {
     pub quality: u8,
 }
 
+impl Reading {
+    // The day that a clock shows.
+    pub fn date(self) -> Date
+        ensures { result ≡ date_of self }
+    {
+        Date {
+            year: self.year,
+            month: self.month,
+            day: self.day,
+        }
+    }
+}
+
 // The UTC day and minute of the day, 0..1439.
-#[derive(Clone, Copy)]
+#[derive(Clone, Copy, Debug, PartialEq, Eq, Hash, PartialOrd, Ord)]
 pub struct Utc {
-    pub date: calendar::Date,
+    pub date: Date,
     pub minute: u16,
 }
 
 // What can be wrong, with the place of the field where there is one.
-#[derive(Clone, Copy)]
+#[derive(Clone, Copy, Debug, PartialEq, Eq)]
 pub enum Fault {
     Length,
     Byte(usize),
@@ -69,32 +87,14 @@ pub enum Fault {
     UnknownKind,
 }
 
-#[derive(Clone, Copy)]
-pub enum Verdict {
-    Good,
-    Bad(Fault),
-}
-
-// A code of document 01 and the place that goes with it.
-#[derive(Clone, Copy)]
+// A code of document 01 and the place that goes with it. The code is a number, since `Refusals.Owed` speaks of it as one; what is
+// wrong inside is a `Fault`.
+#[derive(Clone, Copy, Debug, PartialEq, Eq)]
 pub struct Refusal {
     pub code: u8,
     pub place: usize,
 }
 
 // The stamp of a UTC second: how far it lies from the start of 2000, below zero before it.
-#[derive(Clone, Copy)]
+#[derive(Clone, Copy, Debug, PartialEq, Eq, Hash, PartialOrd, Ord)]
 pub struct Since2000(pub i64);
-
-#[derive(Clone, Copy)]
-pub enum Stamp {
-    At(Since2000),
-    Refused(Refusal),
-}
-
-// What a writer answers: how many bytes it wrote, or why it wrote none.
-#[derive(Clone, Copy)]
-pub enum Written {
-    Length(usize),
-    No(Refusal),
-}

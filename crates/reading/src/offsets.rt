@@ -17,64 +17,66 @@ const FURTHEST_WEST: i8 = -48;
 
 const FURTHEST_EAST: i8 = 56;
 
-// Whether two offsets are one.
+// Whether two offsets are one. It is the derived equality, and stays a function for the wrong program `west_not_compared`.
 pub fn same_offset(a: LocalMinusUtc, b: LocalMinusUtc) -> bool
     ensures { result ≡ same a.0 b.0 }
 {
-    (a.west() == b.west()) & (a.east() == b.east())
+    a == b
 }
 
 impl LocalMinusUtc {
+    #[tactic(auto, unfolding(crate::specs::Offset::west))]
     pub fn west(self) -> u16
         ensures value { result ≡ west self.0 }
         ensures upper_bound { result ≤ 128 }
     {
-        let x = self.0;
-        if x < 0 {
-            return (-(x as i16)) as u16;
+        if self.0 < 0 {
+            u16::from(self.0.unsigned_abs())
+        } else {
+            0
         }
-        0
     }
 
+    #[tactic(auto, unfolding(crate::specs::Offset::east))]
     pub fn east(self) -> u16
         ensures value { result ≡ east self.0 }
         ensures upper_bound { result ≤ 127 }
     {
-        let x = self.0;
-        if x < 0 {
-            return 0;
+        if self.0 < 0 {
+            0
+        } else {
+            u16::from(self.0.unsigned_abs())
         }
-        x as u16
     }
 
+    #[tactic(auto, unfolding(crate::specs::Offset::offset_good, crate::specs::Offset::west, crate::specs::Offset::east))]
     pub fn is_good(self) -> bool
         ensures { result ≡ offset_good self.0 }
     {
-        let x = self.0;
-        (FURTHEST_WEST <= x) & (x <= FURTHEST_EAST)
+        (FURTHEST_WEST..=FURTHEST_EAST).contains(&self.0)
     }
 
-    // The other sense.
+    // The other sense, by a name that says it: a `From` would hide that the sign turns.
     pub fn added(self) -> AddedToLocal
         ensures { result ≡ record { 0 = opposite self.0 } }
     {
-        let x = self.0;
-        AddedToLocal(-(x as i16))
+        AddedToLocal(-i16::from(self.0))
     }
 }
 
 impl AddedToLocal {
     // The other sense back again; an amount that no offset is the opposite of gives the nearest.
+    #[tactic(auto, unfolding(crate::specs::Offset::local_of))]
     pub fn local(self) -> LocalMinusUtc
         ensures { result ≡ record { 0 = local_of self.0 } }
     {
         let x = self.0;
-        if x < -127 {
-            return LocalMinusUtc(127);
-        }
-        if 128 < x {
-            return LocalMinusUtc(-128);
-        }
-        LocalMinusUtc((-x) as i8)
+        LocalMinusUtc(if x < -127 {
+            127
+        } else if 128 < x {
+            -128
+        } else {
+            (-x) as i8
+        })
     }
 }

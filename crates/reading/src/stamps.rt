@@ -5,9 +5,8 @@ ghost use Rattle.std.specs.Int.Signed.{lt_z};
 ghost use Rattle.reading.specs.Stamps.{has_stamp, count_of, stamp_number, stamp_at, stamp_of};
 
 use super::checks::checked;
-use super::faults::refusal_of;
 use super::universal::utc_of;
-use super::{Fault, Reading, Since2000, Stamp, Utc, Verdict};
+use super::{Fault, Reading, Refusal, Since2000, Utc};
 use calendar::days::day_number;
 
 // The count at the start of 1 January 2000.
@@ -18,36 +17,33 @@ impl Since2000 {
     pub fn is_before(self) -> bool
         ensures { result ≡ lt_z self.0 (pos 0) }
     {
-        let x = self.0;
-        x < 0
+        self.0 < 0
     }
 
-    // How far from the start of 2000, to either side. Below zero the bits turned over are one less: the smallest number has no opposite.
+    // How far from the start of 2000, to either side.
     pub fn distance(self) -> u64
         ensures { result ≡ nat_abs self.0 }
     {
-        let x = self.0;
-        if x < 0 {
-            return (!x) as u64 + 1;
-        }
-        x as u64
+        self.0.unsigned_abs()
     }
 }
 
+#[tactic(auto, unfolding(crate::specs::Stamps::has_stamp))]
 fn has_stamp(year: u16) -> bool
     ensures { result ≡ has_stamp year }
 {
-    (1990 <= year) & (year <= 2099)
+    (1990..=2099).contains(&year)
 }
 
 // 86401 seconds to a day, from the year 0 on.
+#[tactic(auto, unfolding(crate::specs::Stamps::count_of))]
 fn count_of(utc: Utc, second: u8) -> u64
     ensures value { result ≡ count_of utc second }
     ensures upper_bound { result < 2 ^ 42 }
 {
     let date = utc.date;
-    let day = day_number(date) as u64;
-    day * 86401 + ((utc.minute as u64) * 60 + (second as u64))
+    let day = u64::from(day_number(date));
+    day * 86401 + (u64::from(utc.minute) * 60 + u64::from(second))
 }
 
 // The one subtraction that can go below zero.
@@ -59,27 +55,28 @@ fn from_zero(count: u64) -> Since2000
     Since2000(number)
 }
 
+#[tactic(auto, using(crate::proofs::StampLaws::number_of))]
 fn stamp_number(utc: Utc, second: u8) -> Since2000
     ensures { result ≡ record { 0 = stamp_number utc second } }
 {
     from_zero(count_of(utc, second))
 }
 
-fn stamp_at(utc: Utc, second: u8) -> Stamp
+#[tactic(auto, unfolding(crate::specs::Stamps::stamp_at))]
+fn stamp_at(utc: Utc, second: u8) -> Result<Since2000, Refusal>
     ensures { result ≡ stamp_at utc second }
 {
     let date = utc.date;
-    if has_stamp(date.year) {
-        return Stamp::At(stamp_number(utc, second));
+    if !has_stamp(date.year) {
+        return Err(Fault::OutsideYears.into());
     }
-    Stamp::Refused(refusal_of(Fault::OutsideYears))
+    Ok(stamp_number(utc, second))
 }
 
-pub fn stamp_of(base: u16, r: Reading) -> Stamp
+#[tactic(auto, unfolding(crate::specs::Stamps::stamp_of))]
+pub fn stamp_of(base: u16, r: Reading) -> Result<Since2000, Refusal>
     ensures { result ≡ stamp_of base r }
 {
-    match checked(base, r) {
-        Verdict::Bad(fault) => Stamp::Refused(refusal_of(fault)),
-        Verdict::Good => stamp_at(utc_of(r), r.second),
-    }
+    checked(base, r)?;
+    stamp_at(utc_of(r), r.second)
 }

@@ -1,4 +1,7 @@
 pub mod Window
 pub mod Runs
-pub mod Ring
+pub mod RingLaws
 pub mod Meets
+pub mod Readers
+pub mod Contracts
+pub mod Unique

@@ -1,5 +1,5 @@
 -- The window: what one pulse more does to it, what it is once it is full, and what stands first before that.
-use mathlib.Core.List.{List, [], ◌∷◌, ◌++◌, append_assoc}
+use mathlib.Core.List.{List, [], ◌∷◌, ◌++◌, append_assoc, append-nil}
 use mathlib.Core.Path.{◌≡◌, sym, ap, ◌∙◌}
 use Prim.Native.Nat.{ℕ, ◌+◌, ◌-◌, ◌≤◌, ◌<◌}
 use native.Mathlib.Nat.{add-zero}
@@ -41,6 +41,11 @@ module _ (n filler : ℕ) where
   pub window_length : (h : List ℕ) → length (window_of n filler h) ≡ n
   unfolding window_of
   window_length h = simp (length-drop, length-append, length-replicate) (omega arith)
+
+  -- before the first pulse it is full of the filler
+  pub window_none : window_of n filler [] ≡ replicate n filler
+  unfolding window_of
+  window_none = append-nil (replicate n filler)
 
   pub window_push : (h : List ℕ) (p : ℕ) → 1 ≤ n → push (window_of n filler h) p ≡ window_of n filler (h ++ (p ∷ []))
   unfolding window_of

@@ -1,5 +1,5 @@
--- The bytes that the clock strings are written in, and how they show a flag.
-use Rattle.std.specs.Prelude.{Bool, cond, ℕ}
+-- The bytes that the clock strings are written in, and how they show a flag and a quality.
+use Rattle.std.specs.Prelude.{Bool, cond, ◌&&◌, ℕ, leb}
 
 -- the control bytes that start and end the text
 abbrev pub stx : ℕ
@@ -47,3 +47,11 @@ letter_s = 83
 -- a flag's letter where it is set, "each else a space"
 abbrev pub mark : Bool → ℕ → ℕ
 mark flag letter = cond flag letter space
+
+-- "`#` (quality 15) or space (0)": the quality of a clock that has failed, and of one that has not
+abbrev pub quality_of : Bool → ℕ
+quality_of failed = cond failed 15 0
+
+-- "quality 1..14", which no string can say
+abbrev pub quality_unshown : ℕ → Bool
+quality_unshown quality = leb 1 quality && leb quality 14

@@ -3,25 +3,22 @@
 #![tactic(auto)]
 
 pub mod letters;
+pub mod reader;
 
-ghost use Rattle.std.specs.Prelude.{◌≡◌};
-ghost use Rattle.reading.specs.Checks.{month_bad};
-ghost use Rattle.strings.specs.Checks.{weekday_bad, time_fault, date_fault, rest_fault, fault_of, answer_of};
+ghost use Rattle.std.specs.Prelude.{◌≡◌, ◌||◌};
+ghost use Rattle.reading.specs.Faults.{no_fault};
+ghost use Rattle.reading.specs.Universal.{utc_of};
+ghost use Rattle.reading.specs.Leap.{sixty_bad};
+ghost use Rattle.reading.specs.Checks.{hour_bad, minute_bad, second_bad, day_bad, month_bad, weekday_wrong};
+ghost use Rattle.strings.specs.Checks.{weekday_bad, time_fault, date_fault, rest_fault, fault_of};
 
+use calendar::days::is_weekday;
 use calendar::months::is_month;
 use reading::checks::{day_bad, hour_bad, leap_second_bad, minute_bad, second_bad, weekday_wrong};
-use reading::faults::refusal_of;
-use reading::{Fault, Reading, Refusal, Verdict};
-
-// What a string says in one of the formats: the time with its coasting mark, or why there is none.
-#[derive(Clone, Copy)]
-pub enum Answer {
-    Time(Reading, bool),
-    No(Refusal),
-}
+use reading::{Fault, Reading};
 
 // Where a format has each field.
-#[derive(Clone, Copy)]
+#[derive(Clone, Copy, Debug, PartialEq, Eq)]
 pub struct Places {
     pub day: usize,
     pub month: usize,
@@ -32,86 +29,72 @@ pub struct Places {
     pub offset: usize,
 }
 
+#[tactic(auto, unfolding(reading::specs::Checks::month_bad))]
 fn month_bad(r: Reading) -> bool
     ensures { result ≡ month_bad r }
 {
     !is_month(r.month)
 }
 
+#[tactic(auto, unfolding(calendar::specs::Calendar::is_weekday, crate::specs::Checks::weekday_bad))]
 fn weekday_bad(weekday: u8) -> bool
     ensures { result ≡ weekday_bad weekday }
 {
-    (weekday < 1) | (7 < weekday)
+    !is_weekday(weekday)
 }
 
-fn rest_fault(wrong: bool, offset: bool, leap: bool, p: Places) -> Verdict
-    ensures { result ≡ rest_fault wrong offset leap p }
+fn time_fault(r: Reading, p: Places) -> Result<(), Fault>
+    ensures { result ≡ time_fault (hour_bad r.hour) (minute_bad r.minute) (second_bad r.second) p no_fault }
 {
-    if wrong {
-        return Verdict::Bad(Fault::Weekday(p.weekday));
+    if hour_bad(r.hour) {
+        return Err(Fault::Time(p.hour));
+    }
+    if minute_bad(r.minute) {
+        return Err(Fault::Time(p.minute));
+    }
+    if second_bad(r.second) {
+        return Err(Fault::Time(p.second));
+    }
+    Ok(())
+}
+
+fn date_fault(r: Reading, said: u8, p: Places) -> Result<(), Fault>
+    ensures { result ≡ date_fault (day_bad r) (month_bad r) (weekday_bad said) p no_fault }
+{
+    if day_bad(r) {
+        return Err(Fault::Date(p.day));
+    }
+    if month_bad(r) {
+        return Err(Fault::Date(p.month));
+    }
+    if weekday_bad(said) {
+        return Err(Fault::Date(p.weekday));
+    }
+    Ok(())
+}
+
+fn rest_fault(r: Reading, said: u8, offset: bool, mark: bool, p: Places) -> Result<(), Fault>
+    ensures { result ≡ rest_fault (weekday_wrong r said) offset (sixty_bad (utc_of r) r.second || mark) p }
+{
+    if weekday_wrong(r, u32::from(said)) {
+        return Err(Fault::Weekday(p.weekday));
     }
     if offset {
-        return Verdict::Bad(Fault::Offset(p.offset));
+        return Err(Fault::Offset(p.offset));
     }
-    if leap {
-        return Verdict::Bad(Fault::LeapSecond(p.second));
+    if leap_second_bad(r) | mark {
+        return Err(Fault::LeapSecond(p.second));
     }
-    Verdict::Good
-}
-
-fn date_fault(day: bool, month: bool, weekday: bool, p: Places, rest: Verdict) -> Verdict
-    ensures { result ≡ date_fault day month weekday p rest }
-{
-    if day {
-        return Verdict::Bad(Fault::Date(p.day));
-    }
-    if month {
-        return Verdict::Bad(Fault::Date(p.month));
-    }
-    if weekday {
-        return Verdict::Bad(Fault::Date(p.weekday));
-    }
-    rest
-}
-
-fn time_fault(hour: bool, minute: bool, second: bool, p: Places, rest: Verdict) -> Verdict
-    ensures { result ≡ time_fault hour minute second p rest }
-{
-    if hour {
-        return Verdict::Bad(Fault::Time(p.hour));
-    }
-    if minute {
-        return Verdict::Bad(Fault::Time(p.minute));
-    }
-    if second {
-        return Verdict::Bad(Fault::Time(p.second));
-    }
-    rest
+    Ok(())
 }
 
 // The first fault of a reading and of what the string says beside it: its weekday; whether its offset is none; whether
 // its mark of a leap second stands against the second.
-pub fn fault_of(r: Reading, said: u8, offset: bool, mark: bool, p: Places) -> Verdict
+#[tactic(auto, using(crate::proofs::CheckLaws::in_steps))]
+pub fn fault_of(r: Reading, said: u8, offset: bool, mark: bool, p: Places) -> Result<(), Fault>
     ensures { result ≡ fault_of r said offset mark p }
 {
-    let leap = leap_second_bad(r) | mark;
-    let rest = rest_fault(weekday_wrong(r, said as u32), offset, leap, p);
-    let date = date_fault(day_bad(r), month_bad(r), weekday_bad(said), p, rest);
-    time_fault(
-        hour_bad(r.hour),
-        minute_bad(r.minute),
-        second_bad(r.second),
-        p,
-        date,
-    )
-}
-
-// The answer to a string on which this is the verdict.
-pub fn told(verdict: Verdict, r: Reading, coasting: bool) -> Answer
-    ensures { result ≡ answer_of verdict r coasting }
-{
-    match verdict {
-        Verdict::Good => Answer::Time(r, coasting),
-        Verdict::Bad(fault) => Answer::No(refusal_of(fault)),
-    }
+    time_fault(r, p)?;
+    date_fault(r, said, p)?;
+    rest_fault(r, said, offset, mark, p)
 }

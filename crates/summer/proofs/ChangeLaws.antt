@@ -12,7 +12,7 @@ use Rattle.calendar.specs.declared.Date.{Date}
 use Rattle.calendar.specs.Calendar.{leap_year, year_length, days_before_year, day_of_year, day_number, weekday_of, in_year, month_day}
 use Rattle.calendar.proofs.DateLaws.{Real, number_is, same_number}
 use Rattle.calendar.proofs.WeekdayLaws.{weekday_is}
-use Rattle.calendar.proofs.TableLaws.{OnDay, on_day_lem, of_year}
+use Rattle.calendar.proofs.DayOfYearLaws.{OnDay, on_day_lem, of_year}
 use Rattle.summer.specs.declared.SetDay.{SetDay}
 use Rattle.summer.specs.declared.SummerRule.{SummerRule}
 use Rattle.summer.specs.Changes.{set_date, days_until, change_day, change_date, day, change_minute, changed, is_summer, hour_before, announces_change}

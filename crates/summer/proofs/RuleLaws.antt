@@ -13,7 +13,7 @@ use Rattle.laws.proofs.Bools.{both, neither}
 use Rattle.calendar.specs.Calendar.{leap_year, days_in, days_before, year_length, day_of_year, is_month, last_day, is_day}
 use Rattle.calendar.proofs.MonthLaws.{before_next, year_whole, month_later}
 use Rattle.calendar.proofs.DateLaws.{Real}
-use Rattle.calendar.proofs.TableLaws.{of_year}
+use Rattle.calendar.proofs.DayOfYearLaws.{of_year}
 use Rattle.summer.specs.declared.SetDay.{SetDay}
 use Rattle.summer.specs.declared.SummerRule.{SummerRule}
 use Rattle.summer.specs.Changes.{set_date}

@@ -5,16 +5,31 @@
 pub mod changes;
 pub mod rules;
 
+ghost use Rattle.std.specs.Prelude.{◌≡◌};
+ghost use Rattle.summer.specs.Changes.{set_date};
+
+use calendar::Date;
+
 // A date of every year and a weekday, 1 for Monday: it stands for the first day at or after the date that falls on the weekday.
-#[derive(Clone, Copy)]
+#[derive(Clone, Copy, Debug, PartialEq, Eq, Hash, PartialOrd, Ord)]
 pub struct SetDay {
     pub month: u8,
     pub day: u8,
     pub weekday: u8,
 }
 
+impl SetDay {
+    // The set date in a year.
+    fn date_in(self, year: u16) -> Date
+        ensures { result ≡ set_date self year }
+    {
+        let SetDay { month, day, .. } = self;
+        Date { year, month, day }
+    }
+}
+
 // Summer time begins and ends at 01:00 UTC of these days.
-#[derive(Clone, Copy)]
+#[derive(Clone, Copy, Debug, PartialEq, Eq, Hash, PartialOrd, Ord)]
 pub struct SummerRule {
     pub start: SetDay,
     pub end: SetDay,

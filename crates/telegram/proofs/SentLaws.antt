@@ -1,4 +1,6 @@
 -- A minute that is not refused: what its checks tell, the UTC of the minute that it names, and the form that is due.
+use Rattle.reading.specs.Faults.{no_fault}
+use Rattle.std.specs.Prelude.{None, Some}
 use mathlib.Core.Bool.{Bool, true, false, not, ◌&&◌, and-false}
 use mathlib.Core.Path.{◌≡◌, refl, sym, ap, ◌∙◌}
 use Prim.Native.Nat.{ℕ, ◌+◌, ◌*◌, ◌≤◌, ◌<◌}
@@ -11,7 +13,6 @@ use Rattle.calendar.specs.declared.Date.{Date}
 use Rattle.calendar.specs.Calendar.{day_number, is_date}
 use Rattle.calendar.proofs.DateLaws.{Real, real, is_date_lem, last_number, before_last}
 use Rattle.reading.specs.declared.Utc.{Utc}
-use Rattle.reading.specs.declared.Verdict.TheVariants.{Good}
 use Rattle.reading.specs.Offset.{offset_good}
 use Rattle.reading.specs.Universal.{day, date_of, utc_of, minute_after, local_at, shown_at}
 use Rattle.reading.specs.Years.{is_base, in_hundred}
@@ -29,9 +30,7 @@ use Rattle.dcf77.proofs.ReadBack.{offset_fine, zero_fine}
 use Rattle.summer.specs.Rules.{rule_bad}
 use Rattle.telegram.specs.declared.Sent.{Sent}
 use Rattle.telegram.specs.declared.Sender.{Sender}
-use Rattle.telegram.specs.declared.LeapSecond.{LeapSecond}
-use Rattle.telegram.specs.declared.LeapSecond.TheVariants.{None, Closes}
-use Rattle.telegram.specs.Telegram.{utc_sent, named_minute, named_summer, same_date, last_hour, announces_leap, closed_minute, telegram_reading}
+use Rattle.telegram.specs.Telegram.{utc_sent, named_minute, named_summer, same_date, last_hour, announces_leap, closed_minute, telegram_reading, LeapSecond}
 use Rattle.telegram.specs.Faults.{time_bad, leap_date_bad, outside, fault_with, send_fault}
 
 -- ---- what the checks tell
@@ -65,7 +64,7 @@ inside : (base y z : ℕ) → outside base y z ≡ false → (in_hundred base y 
 unfolding outside
 inside base y z e = both (in_hundred base y) (in_hundred base z) (not-false (in_hundred base y && in_hundred base z) e)
 
-pub fit : (base : ℕ) (sender : Sender) (sent : Sent) (head : ℕ) → send_fault base sender sent head ≡ Good → Fit base sender sent head
+pub fit : (base : ℕ) (sender : Sender) (sent : Sent) (head : ℕ) → send_fault base sender sent head ≡ no_fault → Fit base sender sent head
 unfolding send_fault fault_with
 fit base sender sent head e =
     let k = first_good (not (is_base base)) _ _ e in
@@ -141,7 +140,7 @@ closed t d m c = go (same_date t d) refl (eqb m last_minute) refl
 configured : (base : ℕ) (leap : LeapSecond) (u : Utc) → leap_date_bad base leap ≡ false → (announces_leap leap u && leap_minute u) ≡ closed_minute leap u
 unfolding announces_leap closed_minute leap_date_bad leap_minute
 configured base None u e = refl
-configured base (Closes t) u e = closed t u.date u.minute (not-false (closes_with_leap t) (neither (no_day base t) (not (closes_with_leap t)) e).1)
+configured base (Some t) u e = closed t u.date u.minute (not-false (closes_with_leap t) (neither (no_day base t) (not (closes_with_leap t)) e).1)
 
 module _ (base : ℕ) (sender : Sender) (sent : Sent) (head : ℕ) (p : Fit base sender sent head) where
   sent_real : Real (utc_sent sent).date
@@ -184,7 +183,7 @@ module _ (base : ℕ) (sender : Sender) (sent : Sent) (head : ℕ) (p : Fit base
       let g = offset_fine (named_summer sender sent) in
       (is_date_lem (date_of (local_at n offset)) (local_date n offset i m g), local_hour n offset i m g, local_minute n offset i m g)
 
-  pub named_carried : carry_fault base (telegram_reading sender sent) head ≡ Good
+  pub named_carried : carry_fault base (telegram_reading sender sent) head ≡ no_fault
   named_carried =
       let r = telegram_reading sender sent in
       let l = local_good in

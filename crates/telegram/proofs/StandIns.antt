@@ -1,5 +1,6 @@
 -- Three stand-ins that the contract rules out: a sender that refuses everything, one minute for all, and a sender that leaves the buffer as
 -- found. Two minutes of 2024 tell them apart.
+use Rattle.std.specs.Prelude.{None, Ok}
 use mathlib.Core.List.{List}
 use mathlib.Core.Path.{◌≡◌, refl, sym, ap, ◌∙◌}
 use Prim.Native.Nat.{ℕ}
@@ -7,14 +8,12 @@ use native.Mathlib.Omega.{arith}
 use lib.ListN.{length, take, replicate}
 use Rattle.calendar.specs.Calendar.{leap_year, days_in, days_before, year_length, days_before_year, day_of_year, day_number, weekday_of, is_month, last_day, is_day, is_date}
 use Rattle.reading.specs.declared.Reading.{Reading}
-use Rattle.reading.specs.declared.Written.TheVariants.{Length}
 use Rattle.reading.specs.Offset.{west, east}
 use Rattle.reading.specs.Years.{usual_base as base, is_base, first_year, in_hundred}
 use Rattle.reading.proofs.YearLaws.{usual_base_lem}
 use Rattle.reading.specs.Universal.{on_day, minute_after, within_day, local_minutes, shown_at, local_at}
 use Rattle.reading.specs.Writing.{written_of, filled}
 use Rattle.reading.proofs.CheckLaws.{clash}
-use Rattle.dcf77.specs.declared.Answer.TheVariants.{Time}
 use Rattle.dcf77.specs.Zones.{offset_in}
 use Rattle.dcf77.specs.Forms.{length_of, due_long}
 use Rattle.dcf77.specs.Reader.{read_dcf77}
@@ -24,7 +23,6 @@ use Rattle.summer.specs.Changes.{days_until, changed, is_summer, hour_before, an
 use Rattle.summer.specs.Rules.{weekday_bad, date_bad, too_late, set_day_bad, day_in, crossed, rule_bad}
 use Rattle.telegram.specs.declared.Sent.{Sent}
 use Rattle.telegram.specs.declared.Sender.{Sender}
-use Rattle.telegram.specs.declared.LeapSecond.TheVariants.{None}
 use Rattle.telegram.specs.Telegram.{utc_sent, named_minute, named_summer, announces_leap, telegram_reading}
 use Rattle.telegram.specs.Faults.{time_bad, leap_date_bad, outside, fault_with, send_fault, telegram_fault}
 use Rattle.telegram.proofs.TelegramLaws.{telegram-reads}
@@ -47,7 +45,7 @@ blank = replicate 60 3
 
 -- the sender wrote so many marks, and what the buffer holds then
 abbrev pub Wrote : Sender → Sent → ℕ → List ℕ → ℕ → Type 0
-Wrote sender sent head out n = written_of (telegram_fault base sender sent head (length out)) (length_of (due_long (telegram_reading sender sent))) ≡ Length n
+Wrote sender sent head out n = written_of (telegram_fault base sender sent head (length out)) (length_of (due_long (telegram_reading sender sent))) ≡ Ok n
 
 abbrev pub after : Sender → Sent → ℕ → List ℕ → List ℕ
 after sender sent head out = filled (telegram_fault base sender sent head (length out)) (bytes_of (telegram_reading sender sent) head) out
@@ -73,7 +71,7 @@ not-all-refused f = f plant (noon 0) 0 blank 60 accepted.0
 -- what is read of a telegram
 abbrev pub Reads : Reading → Type 0
 Reads r = (sender : Sender) (sent : Sent) (head : ℕ) (out : List ℕ) (n : ℕ) → Wrote sender sent head out n
-    → (q : Reading) (h : ℕ) → read_dcf77 base (take n (after sender sent head out)) ≡ Time q h → q ≡ r
+    → (q : Reading) (h : ℕ) → read_dcf77 base (take n (after sender sent head out)) ≡ Ok (q, h) → q ≡ r
 
 -- one minute for all
 pub not-one_minute : (r : Reading) → Reads r → ⊥
@@ -86,6 +84,6 @@ not-one_minute r f =
 -- a sender that leaves the buffer as found
 pub not_as_found : ((sender : Sender) (sent : Sent) (head : ℕ) (out : List ℕ) → after sender sent head out ≡ out) → ⊥
 not_as_found f =
-    let a : read_dcf77 base (take 60 blank) ≡ Time (telegram_reading plant (noon 0)) 0 =
+    let a : read_dcf77 base (take 60 blank) ≡ Ok ((telegram_reading plant (noon 0)), 0) =
     rw (f plant (noon 0) 0 blank) at (telegram-reads base plant (noon 0) 0 blank 60 accepted.0) in
     let z : ◌≡◌ {A = ℕ} 0 1 = cc (no_marks base usual_base_lem) in clash z

@@ -1,5 +1,5 @@
 -- The reading that a telegram names. L8: "Given the UTC minute being sent, write the telegram that names the following minute."
-use Rattle.std.specs.Prelude.{Bool, false, ◌&&◌, ℕ, ◌+◌, ◌*◌, eqb, leb}
+use Rattle.std.specs.Prelude.{Bool, false, ◌&&◌, ℕ, ◌+◌, ◌*◌, eqb, leb, None, Some, Option}
 use Rattle.calendar.specs.declared.Date.{Date}
 use Rattle.reading.specs.declared.Reading.{Reading}
 use Rattle.reading.specs.declared.Utc.{Utc}
@@ -9,8 +9,10 @@ use Rattle.dcf77.specs.Zones.{offset_in}
 use Rattle.summer.specs.Changes.{is_summer, announces_change}
 use Rattle.telegram.specs.declared.Sent.{Sent}
 use Rattle.telegram.specs.declared.Sender.{Sender}
-use Rattle.telegram.specs.declared.LeapSecond.{LeapSecond}
-use Rattle.telegram.specs.declared.LeapSecond.TheVariants.{None, Closes}
+
+-- the leap second that a plant has configured: none, or one that closes a day of UTC
+abbrev pub LeapSecond : Type 0
+LeapSecond = Option Date
 
 -- the minute that is being sent
 unfoldable pub utc_sent : Sent → Utc
@@ -34,12 +36,12 @@ last_hour = 1380
 -- leap announced "likewise before the configured leap second, if any": in the hour before it, from 23:00 to 23:59 UTC of its day
 unfoldable pub announces_leap : LeapSecond → Utc → Bool
 announces_leap None u = false
-announces_leap (Closes t) u = same_date t u.date && leb last_hour u.minute
+announces_leap (Some t) u = same_date t u.date && leb last_hour u.minute
 
 -- the minute that the configured leap second closes: 23:59 of its day
 unfoldable pub closed_minute : LeapSecond → Utc → Bool
 closed_minute None u = false
-closed_minute (Closes t) u = same_date t u.date && eqb u.minute last_minute
+closed_minute (Some t) u = same_date t u.date && eqb u.minute last_minute
 
 -- local time of the named minute, and what is announced in the minute that is being sent
 unfoldable pub telegram_reading : Sender → Sent → Reading

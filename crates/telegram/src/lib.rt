@@ -16,60 +16,43 @@ use calendar::Date;
 use checks::send_fault;
 use dcf77::Dcf77;
 use named::telegram_reading;
-use reading::faults::refusal_of;
 use reading::years::is_base;
-use reading::{Fault, Refusal, Verdict, Written};
+use reading::{Fault, Refusal};
 use summer::SummerRule;
 
-// The leap second that a plant has configured: none, or one that closes a day of UTC.
-#[derive(Clone, Copy)]
-pub enum LeapSecond {
-    None,
-    Closes(Date),
-}
-
 // What a plant configures once.
-#[derive(Clone, Copy)]
+#[derive(Clone, Copy, Debug, PartialEq, Eq)]
 pub struct Sender {
     pub rule: SummerRule,
-    pub leap: LeapSecond,
+    // the day of UTC that a leap second closes, where the plant has configured one
+    pub leap: Option<Date>,
 }
 
 // The minute of UTC that is being sent, or any numbers in the place of one.
-#[derive(Clone, Copy)]
+#[derive(Clone, Copy, Debug, PartialEq, Eq)]
 pub struct Sent {
     pub date: Date,
     pub hour: u8,
     pub minute: u8,
 }
 
-// Every refusal says why, and leaves `out` as it was.
-fn refuse(refusal: Refusal, out: &mut [u8]) -> Written
-    ensures value { result ≡ Written.No refusal }
-    ensures out_unchanged { out.new ≡ out.old }
-{
-    Written::No(refusal)
-}
-
 impl Sender {
     // Writes the telegram that is sent during a minute, which names the minute after it.
-    pub fn write(self, base: u16, sent: Sent, head: u16, out: &mut [u8]) -> Written
+    #[tactic(auto, using(crate::proofs::TelegramLaws::in_steps), unfolding(crate::specs::Faults::send_fault, crate::specs::Faults::fault_with))]
+    pub fn write(self, base: u16, sent: Sent, head: u16, out: &mut [u8]) -> Result<usize, Refusal>
         ensures value { result ≡ written_of (telegram_fault base self sent head (length out.old)) (length_of (due_long (telegram_reading self sent))) }
         ensures out_after { out.new ≡ filled (telegram_fault base self sent head (length out.old)) (bytes_of (telegram_reading self sent) head) out.old }
     {
         // too few for any minute, whatever is to be sent
         if out.len() < Dcf77::LENGTH {
-            return refuse(refusal_of(Fault::Length), out);
+            return Err(Fault::Length.into());
         }
         // before the named minute is worked out, which such a base has no use for
         if !is_base(base) {
-            return refuse(refusal_of(Fault::OtherBase), out);
+            return Err(Fault::OtherBase.into());
         }
         let r = telegram_reading(self, sent);
-        let verdict = send_fault(base, self, sent, head, r.year);
-        match verdict {
-            Verdict::Good => Dcf77::write(base, r, head, out),
-            Verdict::Bad(fault) => refuse(refusal_of(fault), out),
-        }
+        send_fault(base, self, sent, head, r.year)?;
+        Dcf77::write(base, r, head, out)
     }
 }

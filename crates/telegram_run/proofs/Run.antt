@@ -1,5 +1,7 @@
 -- Through any changes of zone and any leap second: a fresh pulse reader that is fed a gap and then the telegrams of successive minutes says
 -- every named minute with its head, in order, each at its telegram's last symbol, and nothing else.
+use Rattle.reading.specs.Faults.{no_fault}
+use Rattle.std.specs.Prelude.{None, Ok, Some}
 use mathlib.Core.List.{List, [], ◌∷◌, ◌++◌, append_assoc}
 use mathlib.Core.Path.{◌≡◌, refl, ap, ap₂, ◌∙◌}
 use Prim.Native.Nat.{ℕ, zero, suc, ◌+◌, ◌*◌, ◌/◌, ◌%◌}
@@ -7,15 +9,12 @@ use native.Mathlib.Omega.{arith}
 use lib.ListN.{length, replicate}
 use lib.Seq.{take_at}
 use Rattle.reading.specs.declared.Reading.{Reading}
-use Rattle.reading.specs.declared.Verdict.TheVariants.{Good}
 use Rattle.dcf77.specs.Forms.{length_of, last_of, due_long}
 use Rattle.dcf77.specs.Writer.{bytes_of, carry_fault}
 use Rattle.dcf77.proofs.WriteLaws.{length-bytes}
 use Rattle.streams.specs.Stream.{owed_to}
 use Rattle.streams.proofs.Runs.{owed-append}
-use Rattle.dcf77_stream.specs.declared.Said.{Said}
-use Rattle.dcf77_stream.specs.declared.Said.TheVariants.{Time, Nothing}
-use Rattle.dcf77_stream.specs.Said.{owed, answers}
+use Rattle.dcf77_stream.specs.Said.{owed, answers, Said}
 use Rattle.dcf77_stream.specs.Ending.{gapless}
 use Rattle.dcf77_stream.proofs.SinceGap.{nothing_at_first_gap}
 use Rattle.dcf77_stream.proofs.StreamLaws.{fresh_says_owed}
@@ -37,7 +36,7 @@ successive sent =
     λ i. record { date = (named_minute sent).date; minute = m i }
 
 module _ (base : ℕ) (sender : Sender) where
-  module _ (sent : Sent) (call : Call) (good : telegram_fault base sender sent call.head (length call.buffer) ≡ Good) where
+  module _ (sent : Sent) (call : Call) (good : telegram_fault base sender sent call.head (length call.buffer) ≡ no_fault) where
     abbrev r : Reading
     r = telegram_reading sender sent
 
@@ -46,7 +45,7 @@ module _ (base : ℕ) (sender : Sender) where
     unfolding telegram_of
     telegram-is = rw good (take_at (bytes_of r call.head) _ (length_of (due_long r)) (length-bytes r call.head))
 
-    carried : carry_fault base r call.head ≡ Good
+    carried : carry_fault base r call.head ≡ no_fault
     carried = named_carried base sender sent call.head (fit base sender sent call.head (not-refused base sender sent call.head (length call.buffer) good))
 
   run_from : (before : List ℕ) (sent : Sent) (calls : List Call) → NoneRefused base sender sent calls
@@ -64,11 +63,11 @@ module _ (base : ℕ) (sender : Sender) where
       ∙ ap₂ ◌++◌ (minute_answers base r call.head c before)
       (ap (λ (s : List ℕ). owed_to (owed base) s rest) (gap_again base r call.head c before)
       ∙ run_from (since ++ marks) (sent_after sent) calls p.1)
-      ∙ append_assoc (replicate (last_of (due_long r)) Nothing) (Time r call.head ∷ []) (said_from sender (sent_after sent) calls)
+      ∙ append_assoc (replicate (last_of (due_long r)) None) (Some (Ok (r, call.head)) ∷ []) (said_from sender (sent_after sent) calls)
 
   -- every answer, symbol by symbol
   pub run_told : (sent : Sent) (calls : List Call) → NoneRefused base sender sent calls
-      → answers base (2 ∷ telegrams_from base sender sent calls) ≡ Nothing ∷ said_from sender sent calls
+      → answers base (2 ∷ telegrams_from base sender sent calls) ≡ None ∷ said_from sender sent calls
   unfolding owed_to gapless
   run_told sent calls p =
       fresh_says_owed base (2 ∷ telegrams_from base sender sent calls)
@@ -76,7 +75,7 @@ module _ (base : ℕ) (sender : Sender) where
 
 -- ---- what is said at all
 
-silent_first : (n : ℕ) (rest : List Said) → spoken (replicate n Nothing ++ rest) ≡ spoken rest
+silent_first : (n : ℕ) (rest : List Said) → spoken (replicate n None ++ rest) ≡ spoken rest
 unfolding spoken
 silent_first zero rest = refl
 silent_first (suc n) rest = silent_first n rest
@@ -86,8 +85,8 @@ unfolding spoken said_from named_from
 spoken_run sender sent [] = refl
 spoken_run sender sent (call ∷ calls) =
     let r = telegram_reading sender sent in
-    silent_first (last_of (due_long r)) (Time r call.head ∷ said_from sender (sent_after sent) calls)
-    ∙ ap (λ (l : List Said). Time r call.head ∷ l) (spoken_run sender (sent_after sent) calls)
+    silent_first (last_of (due_long r)) (Some (Ok (r, call.head)) ∷ said_from sender (sent_after sent) calls)
+    ∙ ap (λ (l : List Said). Some (Ok (r, call.head)) ∷ l) (spoken_run sender (sent_after sent) calls)
 
 -- "gives back every named minute in order"
 pub run_in_order : (base : ℕ) (sender : Sender) (sent : Sent) (calls : List Call) → NoneRefused base sender sent calls

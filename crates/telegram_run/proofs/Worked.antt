@@ -1,5 +1,7 @@
 -- Runs that there are: three minutes through the change to summer of 2024, through the change back, and through the leap second of 2016,
 -- whose second telegram is long. So the run's theorem is not about nothing.
+use Rattle.calendar.specs.declared.Date.{Date}
+use Rattle.std.specs.Prelude.{None, Some}
 use mathlib.Core.Bool.{true}
 use mathlib.Core.List.{List, [], ◌∷◌}
 use mathlib.Core.Path.{◌≡◌, refl}
@@ -17,9 +19,7 @@ use Rattle.summer.specs.Changes.{days_until, changed, is_summer, hour_before, an
 use Rattle.summer.specs.Rules.{weekday_bad, date_bad, too_late, set_day_bad, day_in, crossed, rule_bad}
 use Rattle.telegram.specs.declared.Sent.{Sent}
 use Rattle.telegram.specs.declared.Sender.{Sender}
-use Rattle.telegram.specs.declared.LeapSecond.{LeapSecond}
-use Rattle.telegram.specs.declared.LeapSecond.TheVariants.{None, Closes}
-use Rattle.telegram.specs.Telegram.{utc_sent, named_minute, named_summer, same_date, announces_leap, telegram_reading}
+use Rattle.telegram.specs.Telegram.{utc_sent, named_minute, named_summer, same_date, announces_leap, telegram_reading, LeapSecond}
 use Rattle.telegram.specs.Faults.{time_bad, leap_date_bad, outside, fault_with, send_fault, telegram_fault}
 use Rattle.telegram_run.specs.Run.{Call, sent_after, NoneRefused}
 
@@ -42,7 +42,7 @@ calls =
     ∷ []
 
 abbrev leap2016 : LeapSecond
-leap2016 = Closes (record { year = 2016; month = 12; day = 31 })
+leap2016 = Some (record { year = 2016; month = 12; day = 31 })
 
 pub runs : NoneRefused base (plant None) (at 2024 3 31 0 58) calls
     × NoneRefused base (plant None) (at 2024 10 27 0 58) calls

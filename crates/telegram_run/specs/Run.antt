@@ -1,12 +1,11 @@
 -- A run of telegrams for successive minutes, as the sender leaves them in the buffers that it is lent, and what a pulse reader owes it.
 -- L8: "a run of telegrams for successive minutes, through the DCF77 pulse reader after a first gap, gives back every named minute in order".
-use Rattle.std.specs.Prelude.{List, [], ◌∷◌, ◌++◌, ◌≡◌, ℕ, ◌/◌, ◌%◌, length, take, replicate}
-use Rattle.reading.specs.declared.Verdict.TheVariants.{Good}
+use Rattle.reading.specs.Faults.{no_fault}
+use Rattle.dcf77_stream.specs.Said.{Said}
+use Rattle.std.specs.Prelude.{List, [], ◌∷◌, ◌++◌, ◌≡◌, ℕ, ◌/◌, ◌%◌, length, take, replicate, Err, None, Ok, Some}
 use Rattle.reading.specs.Writing.{filled}
 use Rattle.dcf77.specs.Forms.{length_of, last_of, due_long}
 use Rattle.dcf77.specs.Writer.{bytes_of}
-use Rattle.dcf77_stream.specs.declared.Said.{Said}
-use Rattle.dcf77_stream.specs.declared.Said.TheVariants.{Time, No, Nothing}
 use Rattle.telegram.specs.declared.Sent.{Sent}
 use Rattle.telegram.specs.declared.Sender.{Sender}
 use Rattle.telegram.specs.Telegram.{named_minute, telegram_reading}
@@ -36,23 +35,23 @@ telegrams_from base sender sent (call ∷ calls) = telegram_of base sender sent 
 abbrev pub NoneRefused : ℕ → Sender → Sent → List Call → Type 0
 NoneRefused base sender sent [] = Unit {0}
 NoneRefused base sender sent (call ∷ calls) =
-    (telegram_fault base sender sent call.head (length call.buffer) ≡ Good) × NoneRefused base sender (sent_after sent) calls
+    (telegram_fault base sender sent call.head (length call.buffer) ≡ no_fault) × NoneRefused base sender (sent_after sent) calls
 
 -- the named minutes with their heads, in order
 unfoldable pub named_from : Sender → Sent → List Call → List Said
 named_from sender sent [] = []
-named_from sender sent (call ∷ calls) = Time (telegram_reading sender sent) call.head ∷ named_from sender (sent_after sent) calls
+named_from sender sent (call ∷ calls) = Some (Ok ((telegram_reading sender sent), call.head)) ∷ named_from sender (sent_after sent) calls
 
 -- an answer to each symbol: each named minute at its telegram's last, and nothing else
 unfoldable pub said_from : Sender → Sent → List Call → List Said
 said_from sender sent [] = []
 said_from sender sent (call ∷ calls) =
-    replicate (last_of (due_long (telegram_reading sender sent))) Nothing
-    ++ (Time (telegram_reading sender sent) call.head ∷ said_from sender (sent_after sent) calls)
+    replicate (last_of (due_long (telegram_reading sender sent))) None
+    ++ (Some (Ok ((telegram_reading sender sent), call.head)) ∷ said_from sender (sent_after sent) calls)
 
 -- the answers that say something
 unfoldable pub spoken : List Said → List Said
 spoken [] = []
-spoken (Nothing ∷ rest) = spoken rest
-spoken (Time r head ∷ rest) = Time r head ∷ spoken rest
-spoken (No x ∷ rest) = No x ∷ spoken rest
+spoken (None ∷ rest) = spoken rest
+spoken (Some (Ok (r, head)) ∷ rest) = Some (Ok (r, head)) ∷ spoken rest
+spoken (Some (Err x) ∷ rest) = Some (Err x) ∷ spoken rest

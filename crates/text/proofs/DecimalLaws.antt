@@ -6,8 +6,10 @@ use Prim.Native.Nat.{ℕ, zero, suc, ◌+◌, ◌-◌, ◌*◌, ◌/◌, ◌%◌
 use native.Mathlib.Nat.{pow-suc, div-lt_iff_lt-mul, not-suc-le-zero}
 use native.Mathlib.Omega.{arith}
 use lib.Dec.{ltb}
-use lib.ListN.{length, drop, set, length-set}
-use lib.Seq.{drop-cons, get_or-set_same, drop-set-lt}
+use lib.ListN.{length, drop, set, length-set, length-drop}
+use borrow.Rule.Slice.PartMut.{mid_of}
+use Rattle.std.proofs.lemmas.List.{drop_all}
+use lib.Seq.{take_all, drop-cons, get_or-set_same, drop-set-lt}
 use borrow.Author.Tests.{lt-ltb, le-ltb, ltb-true, ltb-false}
 use Rattle.wire.specs.Put.{fits}
 use Rattle.text.specs.Decimal.{digits_before, decimal, stored_length}
@@ -35,6 +37,17 @@ pub record Stored (number : ℕ) (bytes : List ℕ) (from rest : ℕ) : Type 0 w
   pub top : from ≤ 20
   pub small : rest < 10 ^ from
 
+-- a word of 64 bits has at most 20 digits
+pub begun : (number : ℕ) (bytes : List ℕ) → number < 2 ^ 64 → length bytes ≡ 20 → Stored number bytes 20 number
+unfolding decimal
+begun number bytes h e = record {
+  digits = ap (digits_before 20 number) (drop_all 20 bytes (omega arith));
+  long = e;
+  room = omega arith;
+  top = omega arith;
+  small = omega (arith, h);
+}
+
 room_for_two : (f n : ℕ) → 9 < n → n < 10 ^ f → 2 ≤ f
 room_for_two zero n h k = omega (arith, h, k)
 room_for_two (suc zero) n h k = omega (arith, h, k)
@@ -60,11 +73,15 @@ module _ (number : ℕ) (bytes : List ℕ) (from rest : ℕ) (s : Stored number 
         small = smaller (from - 1) rest (rw up s.small);
       }
 
-  pub finished : rest ≤ 9 → drop (from - 1) (set bytes (from - 1) (48 + rest)) ≡ decimal number
+  -- the part of the buffer that is lent in the end
+  pub finished : rest ≤ 9 → mid_of (from - 1) (20 - (from - 1)) (set bytes (from - 1) (48 + rest)) ≡ decimal number
   finished h =
       let up : suc (from - 1) ≡ from = omega (arith, s.room) in
       let inside : from - 1 < length bytes = omega (arith, s.long, s.top, s.room) in
-      rw (stored_before bytes (from - 1) (48 + rest) inside, ← the_last (from - 1) rest (drop (suc (from - 1)) bytes) (omega arith), up) s.digits
+      take_all _ _ (simp (length-drop, length-set) (omega (arith, s.long)))
+      ∙ rw (stored_before bytes (from - 1) (48 + rest) inside, ← the_last (from - 1) rest (drop (suc (from - 1)) bytes) (omega arith), up) s.digits
+
+pub ruleset digit_loop = (begun, finished)
 
 -- ---- the digits stand for the number
 

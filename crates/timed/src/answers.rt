@@ -1,83 +1,84 @@
-// A number made of every part of an answer, so that no part can be left out.
-use reading::{Reading, Refusal, Written};
-use std::num::wrapping_add_u64;
+// A number made of every part of an answer, so that no part can be left out. A length or a place is a `usize`, and counts by
+// `as u64`, since `u64` has no `From<usize>`.
+use clock_string::Told;
+use reading::{Reading, Refusal};
 
-fn bit(flag: bool) -> u64 {
-    if flag {
-        return 1;
+pub(crate) trait Answer {
+    fn sum(self) -> u64;
+}
+
+impl Answer for usize {
+    fn sum(self) -> u64 {
+        self as u64
     }
-    0
+}
+
+impl Answer for Refusal {
+    fn sum(self) -> u64 {
+        (256 * u64::from(self.code)).wrapping_add(self.place as u64)
+    }
 }
 
 fn three(a: u64, b: u64, c: u64) -> u64 {
-    wrapping_add_u64(wrapping_add_u64(a, b), c)
-}
-
-fn of_refusal(r: Refusal) -> u64 {
-    wrapping_add_u64(256 * (r.code as u64), r.place as u64)
-}
-
-fn of_flags(r: Reading) -> u64 {
-    let flags = three(bit(r.summer), bit(r.leap), bit(r.change));
-    wrapping_add_u64(flags, r.quality as u64)
-}
-
-fn of_clock(r: Reading) -> u64 {
-    let offset = r.offset;
-    let clock = three(r.hour as u64, r.minute as u64, r.second as u64);
-    three(clock, offset.east() as u64, offset.west() as u64)
+    a.wrapping_add(b).wrapping_add(c)
 }
 
 fn of_date(r: Reading) -> u64 {
-    three(r.year as u64, r.month as u64, r.day as u64)
+    three(u64::from(r.year), u64::from(r.month), u64::from(r.day))
 }
 
-fn of_reading(r: Reading) -> u64 {
-    three(of_date(r), of_clock(r), of_flags(r))
+fn of_clock(r: Reading) -> u64 {
+    let clock = three(u64::from(r.hour), u64::from(r.minute), u64::from(r.second));
+    three(
+        clock,
+        u64::from(r.offset.east()),
+        u64::from(r.offset.west()),
+    )
+}
+
+fn of_flags(r: Reading) -> u64 {
+    let flags = three(u64::from(r.summer), u64::from(r.leap), u64::from(r.change));
+    flags.wrapping_add(u64::from(r.quality))
+}
+
+impl Answer for Reading {
+    fn sum(self) -> u64 {
+        three(of_date(self), of_clock(self), of_flags(self))
+    }
+}
+
+// A minute with its head.
+impl Answer for (Reading, u16) {
+    fn sum(self) -> u64 {
+        self.0.sum().wrapping_add(u64::from(self.1))
+    }
 }
 
 // Meinberg's string counts 1 and Uni Erlangen's 2, as the kinds of a book do.
-pub(crate) fn of_string(answer: clock_string::Answer) -> u64 {
-    match answer {
-        clock_string::Answer::Meinberg(r, coasting) => three(of_reading(r), bit(coasting), 1),
-        clock_string::Answer::Erlangen(r, coasting) => three(of_reading(r), bit(coasting), 2),
-        clock_string::Answer::No(refusal) => of_refusal(refusal),
+impl Answer for Told {
+    fn sum(self) -> u64 {
+        match self {
+            Told::Meinberg(r, coasting) => three(r.sum(), u64::from(coasting), 1),
+            Told::Erlangen(r, coasting) => three(r.sum(), u64::from(coasting), 2),
+        }
     }
 }
 
-pub(crate) fn of_frame(answer: irig::Answer) -> u64 {
-    match answer {
-        irig::Answer::Time(r) => of_reading(r),
-        irig::Answer::No(refusal) => of_refusal(refusal),
+impl<T: Answer> Answer for Result<T, Refusal> {
+    fn sum(self) -> u64 {
+        match self {
+            Ok(answer) => answer.sum(),
+            Err(refusal) => refusal.sum(),
+        }
     }
 }
 
-pub(crate) fn of_minute(answer: dcf77::Answer) -> u64 {
-    match answer {
-        dcf77::Answer::Time(r, head) => wrapping_add_u64(of_reading(r), head as u64),
-        dcf77::Answer::No(refusal) => of_refusal(refusal),
-    }
-}
-
-pub(crate) fn of_written(answer: Written) -> u64 {
-    match answer {
-        Written::Length(n) => n as u64,
-        Written::No(refusal) => of_refusal(refusal),
-    }
-}
-
-pub(crate) fn of_frame_said(said: irig_stream::Said) -> u64 {
-    match said {
-        irig_stream::Said::Time(r) => of_reading(r),
-        irig_stream::Said::No(refusal) => of_refusal(refusal),
-        irig_stream::Said::Nothing => 0,
-    }
-}
-
-pub(crate) fn of_minute_said(said: dcf77_stream::Said) -> u64 {
-    match said {
-        dcf77_stream::Said::Time(r, head) => wrapping_add_u64(of_reading(r), head as u64),
-        dcf77_stream::Said::No(refusal) => of_refusal(refusal),
-        dcf77_stream::Said::Nothing => 0,
+// Nothing that is said counts 0.
+impl<T: Answer> Answer for Option<T> {
+    fn sum(self) -> u64 {
+        match self {
+            Some(answer) => answer.sum(),
+            None => 0,
+        }
     }
 }

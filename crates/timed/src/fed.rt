@@ -1,31 +1,18 @@
-// One pulse after the other, given to a fresh reader.
-use super::answers;
-use std::num::wrapping_add_u64;
+// One pulse after the other, given to a fresh reader of a format.
+// A loop of its own: the answers are summed up here, `vectors` prints each, and `answer_after` of `streams` keeps the last alone.
+use super::answers::Answer;
+use streams::{Format, PulseReader};
 
-pub(crate) fn frames(base: u16, pulses: &[u8]) -> u64 {
-    let mut reader = irig_stream::PulseReader::fresh(base);
+pub(crate) fn fed<F: Format<N>, const N: usize>(base: u16, pulses: &[u8]) -> u64
+where
+    F::Said: Answer,
+{
+    let mut reader: PulseReader<F, N> = PulseReader::fresh(base);
     let mut sum: u64 = 0;
-    let mut i = 0;
-    while i < pulses.len() {
-        let s = reader.step(pulses[i]);
-        reader = s.reader;
-        let said = s.said;
-        sum = wrapping_add_u64(sum, answers::of_frame_said(said));
-        i += 1;
-    }
-    sum
-}
-
-pub(crate) fn minutes(base: u16, symbols: &[u8]) -> u64 {
-    let mut reader = dcf77_stream::PulseReader::fresh(base);
-    let mut sum: u64 = 0;
-    let mut i = 0;
-    while i < symbols.len() {
-        let s = reader.step(symbols[i]);
-        reader = s.reader;
-        let said = s.said;
-        sum = wrapping_add_u64(sum, answers::of_minute_said(said));
-        i += 1;
+    for &pulse in pulses {
+        let stepped = reader.step(pulse);
+        reader = stepped.reader;
+        sum = sum.wrapping_add(stepped.said.sum());
     }
     sum
 }

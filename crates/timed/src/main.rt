@@ -5,17 +5,22 @@
 
 mod answers;
 mod fed;
-mod fields;
+mod op;
 mod records;
 mod sent;
 mod writers;
 
-fn run(base: u16, op: u8, size: u8, records: &[u8], page: &mut [u8]) -> u64 {
+use dcf77_stream::Minutes;
+use fed::fed;
+use irig_stream::Frames;
+use op::Op;
+
+fn run(base: u16, op: Op, length: u8, records: &[u8], page: &mut [u8]) -> u64 {
     match op {
-        5..=9 => writers::over(base, op, size as usize, records, page),
-        11 => fed::frames(base, records),
-        12 => fed::minutes(base, records),
-        _ => records::over(base, op, size as usize, records, page),
+        Op::Each(each) => records::over(base, each, length, records, page),
+        Op::Write(writer) => writers::over(base, writer, length, records, page),
+        Op::FramePulses => fed::<Frames, 100>(base, records),
+        Op::MinutePulses => fed::<Minutes, 62>(base, records),
     }
 }
 
@@ -24,13 +29,9 @@ fn answer(space: &mut [u8], page: &mut [u8]) {
     let mut head = [0u8; 4];
     io::read_full(0, &mut head);
     let n = io::read_full(0, space);
-    let sum = run(
-        fields::two(head[2], head[3]),
-        head[0],
-        head[1],
-        &space[..n],
-        page,
-    );
+    let [op, length, low, high] = head;
+    let base = u16::from_le_bytes([low, high]);
+    let sum = run(base, op.into(), length, &space[..n], page);
     io::print_decimal(1, sum);
     io::write_all(1, b"\n");
     io::write_all(1, page);

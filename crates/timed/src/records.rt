@@ -1,47 +1,40 @@
 // Reading each record, bridging it, or sending what it says.
-ghost use Rattle.std.specs.Prelude.{◌<◌, ◌≤◌};
+ghost use Rattle.std.specs.Prelude.{◌<◌};
 
-use super::{answers, sent};
+use super::answers::Answer;
+use super::op::Each;
+use super::sent;
 use bridge::{Coasting, bridge, bridge_with};
 use clock_string::read;
 use dcf77::Dcf77;
 use irig::Ieee1344;
-use std::num::wrapping_add_u64;
 
-fn once(base: u16, op: u8, given: &[u8], page: &mut [u8]) -> u64 {
-    match op {
-        1 => answers::of_string(read(base, given)),
-        3 => answers::of_frame(Ieee1344::read(base, given)),
-        4 => answers::of_minute(Dcf77::read(base, given)),
-        13 => answers::of_written(bridge(base, given, page)),
-        14 => answers::of_written(bridge_with(base, given, Coasting::Dropped, page)),
-        15 => sent::written(base, given, page),
-        _ => given.len() as u64,
+fn once(base: u16, each: Each, record: &[u8], page: &mut [u8]) -> u64 {
+    match each {
+        Each::Measure => record.len().sum(),
+        Each::ReadString => read(base, record).sum(),
+        Each::ReadFrame => Ieee1344::read(base, record).sum(),
+        Each::ReadMinute => Dcf77::read(base, record).sum(),
+        Each::Bridge => bridge(base, record, page).sum(),
+        Each::BridgeDropping => bridge_with(base, record, Coasting::Dropped, page).sum(),
+        Each::Telegram => sent::written(base, record, page),
     }
 }
 
-// Where the record that starts at `at` ends; the last may be cut off.
-pub(crate) fn end_of(at: usize, size: usize, length: usize) -> usize
-    requires { at < length }
-    ensures { (at < result) × (result ≤ length) }
+// The length that the records are cut by; the last may be shorter. Where none is given they are one record.
+pub(crate) fn length_of_each(given: u8, records: &[u8]) -> usize
+    ensures { 0 < result }
 {
-    let left = length - at;
-    if size < 1 {
-        return length;
+    if given == 0 {
+        return records.len().max(1);
     }
-    if left < size {
-        return length;
-    }
-    at + size
+    usize::from(given)
 }
 
-pub(crate) fn over(base: u16, op: u8, size: usize, records: &[u8], page: &mut [u8]) -> u64 {
+pub(crate) fn over(base: u16, each: Each, length: u8, records: &[u8], page: &mut [u8]) -> u64 {
     let mut sum: u64 = 0;
-    let mut at = 0;
-    while at < records.len() {
-        let end = end_of(at, size, records.len());
-        sum = wrapping_add_u64(sum, once(base, op, &records[at..end], page));
-        at = end;
+    for record in records.chunks(length_of_each(length, records)) {
+        sum = sum.wrapping_add(once(base, each, record, page));
     }
     sum
 }

@@ -1,31 +1,27 @@
-// The line that answers a case: which function is asked, by the case's number.
+// The line that answers a case: which function is asked, by what the case asks for. What a bad case gets is for the caller to
+// print: nothing is printed of one here.
 use super::changes::every_change;
-use super::fed::{fed_frames, fed_minutes};
+use super::fed::fed;
 use super::listed::listed;
-use super::print::print_word;
-use super::readers::read_by;
+use super::op::{Bad, Op};
+use super::readers::print_read;
 use super::stamped::stamped;
 use super::table::tabled;
 use super::writers::written;
+use dcf77_stream::Minutes;
+use irig_stream::Frames;
 
 // The page is lent to what makes a listing.
-pub(crate) fn answer(page: &mut [u8], op: u8, base: u16, payload: &[u8]) {
+pub(crate) fn answer(page: &mut [u8], op: Op, base: u16, payload: &[u8]) -> Result<(), Bad> {
     match op {
-        13 => listed(base, page, payload),
-        _ => answer_by(op, base, payload),
+        Op::Read(reader) => print_read(base, reader, payload),
+        Op::Write(writer) => written(base, writer, payload)?,
+        Op::Stamp => stamped(base, payload)?,
+        Op::FeedFrames => fed::<Frames, 100>(base, payload),
+        Op::FeedMinutes => fed::<Minutes, 62>(base, payload),
+        Op::List => listed(base, page, payload)?,
+        Op::Table => tabled(),
+        Op::Change(reader) => every_change(base, reader, payload)?,
     }
-}
-
-fn answer_by(op: u8, base: u16, payload: &[u8]) {
-    match op {
-        1 | 3 | 4 => read_by(base, op, payload),
-        5..=8 | 10 | 15..=16 => written(base, op, payload),
-        9 => stamped(base, payload),
-        11 => fed_frames(base, payload),
-        12 => fed_minutes(base, payload),
-        14 => tabled(),
-        20 => every_change(base, 1, payload),
-        22..=23 => every_change(base, op - 19, payload),
-        _ => print_word(b"bad"),
-    }
+    Ok(())
 }

@@ -1,27 +1,21 @@
 // The listing of a book on one line, a bar for each line feed.
+use super::op::Bad;
 use super::print::print_word;
-use reading::Written;
 
-fn barred(byte: u8) -> u8 {
-    if byte == b'\n' {
-        return b'|';
+fn print_barred(text: &mut [u8]) {
+    for byte in text.iter_mut() {
+        if *byte == b'\n' {
+            *byte = b'|';
+        }
     }
-    byte
+    print_word(text)
 }
 
-// As much of a page as a listing takes.
-fn print_page(page: &mut [u8], end: usize) {
-    let mut i = 0;
-    while i < page.len() && i < end {
-        page[i] = barred(page[i]);
-        i += 1;
-    }
-    print_word(&page[..i])
-}
-
-pub(crate) fn listed(base: u16, page: &mut [u8], book: &[u8]) {
-    match listing::list(base, book, page) {
-        Written::Length(n) => print_page(page, n),
-        Written::No(_) => print_word(b"bad"),
-    }
+pub(crate) fn listed(base: u16, page: &mut [u8], book: &[u8]) -> Result<(), Bad> {
+    let Ok(length) = listing::list(base, book, page) else {
+        return Err(Bad);
+    };
+    let end = length.min(page.len());
+    print_barred(&mut page[..end]);
+    Ok(())
 }

@@ -1,4 +1,5 @@
-// Words, numbers and bytes on standard output.
+// Words, numbers and bytes on standard output. A count or a place is a `usize`; it is handed to these by `as u64`, in all of this
+// program, since `u64` has no `From<usize>`.
 
 pub(crate) fn print_word(text: &[u8]) {
     io::write_all(1, text);
@@ -6,32 +7,36 @@ pub(crate) fn print_word(text: &[u8]) {
 
 // A mark, and a number behind it.
 pub(crate) fn print_number(mark: u8, number: u64) {
-    let mut digits = [0u8; 20];
-    let n = io::decimal(number, &mut digits);
-    let first = [mark];
-    io::write_all(1, &first);
-    io::write_all(1, &digits[..n]);
+    print_word(&[mark]);
+    io::print_decimal(1, number);
 }
 
-fn glyph(digit: u8) -> u8 {
-    if digit % 16 < 10 {
-        return 48 + digit % 16;
+// The same with a minus before a number below zero.
+pub(crate) fn print_signed(mark: u8, number: i64) {
+    let distance = number.unsigned_abs();
+    if number < 0 {
+        print_word(&[mark]);
+        return print_number(b'-', distance);
     }
-    87 + digit % 16
+    print_number(mark, distance)
+}
+
+const GLYPHS: [u8; 16] = *b"0123456789abcdef";
+
+fn glyph(digit: u8) -> u8 {
+    GLYPHS[usize::from(digit % 16)]
 }
 
 // Bytes in lower-case hexadecimal digits, at most 256 of them; a hyphen where there are none.
 pub(crate) fn print_hex(bytes: &[u8]) {
-    if bytes.len() == 0 {
+    if bytes.is_empty() {
         return print_word(b"-");
     }
     let mut text = [0u8; 512];
-    let mut i = 0;
-    while i < bytes.len() && i < 256 {
-        text[2 * i] = glyph(bytes[i] / 16);
-        text[2 * i + 1] = glyph(bytes[i] % 16);
-        i += 1;
+    for (digits, &byte) in text.chunks_exact_mut(2).zip(bytes) {
+        digits[0] = glyph(byte / 16);
+        digits[1] = glyph(byte);
     }
-    let end = 2 * i;
+    let end = 2 * bytes.len().min(256);
     print_word(&text[..end])
 }

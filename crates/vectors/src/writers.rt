@@ -1,107 +1,60 @@
 // What the writers, the bridge and the sender answer, and the whole lent buffer afterwards.
-use super::fields::{byte, pair, reading_in};
-use super::print::{print_hex, print_number, print_word};
-use super::sent::{leap_in, rule_in, sent_in};
-use super::stamped::print_refused;
-use super::way::{names_way, way_in};
+use super::op::{Bad, Writer};
+use super::print::{print_hex, print_word};
+use super::words::Words;
 use bridge::{bridge, bridge_with};
 use dcf77::Dcf77;
 use erlangen::Erlangen;
 use irig::Ieee1344;
 use meinberg::Meinberg;
-use reading::Written;
-use telegram::Sender;
+use payloads::{pair_at, reading_in, sender_in, sent_in, way_in};
+use reading::Refusal;
 
-// What stands behind the first bytes of a payload.
-fn behind(payload: &[u8], first: usize) -> &[u8] {
-    if payload.len() < first {
-        return &payload[0..0];
-    }
-    &payload[first..]
-}
-
-// 5 Meinberg, 6 Uni Erlangen, 7 IEEE 1344, 8 DCF77, from a reading, what stands beside it and the position part.
-fn write_by(base: u16, op: u8, payload: &[u8], buffer: &mut [u8]) -> Written {
-    let r = reading_in(payload);
-    let beside = pair(payload, 12);
-    match op {
-        5 => Meinberg::write(base, r, beside != 0, buffer),
-        6 => Erlangen::write(base, r, beside != 0, behind(payload, 15), buffer),
-        7 => Ieee1344::write(base, r, buffer),
-        _ => Dcf77::write(base, r, beside, buffer),
+// Where a payload says how many bytes are lent.
+fn room_at(writer: Writer) -> usize {
+    match writer {
+        Writer::Bridge | Writer::BridgeByWay => 0,
+        Writer::Telegram => 19,
+        Writer::Meinberg | Writer::Erlangen | Writer::Frame | Writer::Minute => 14,
     }
 }
 
 // A telegram, from what a plant configures, the minute that is being sent and a head.
-fn send(base: u16, payload: &[u8], buffer: &mut [u8]) -> Written {
-    let sender = Sender {
-        rule: rule_in(payload),
-        leap: leap_in(payload),
+fn send(base: u16, payload: &[u8], buffer: &mut [u8]) -> Result<usize, Refusal> {
+    let sender = sender_in(payload);
+    sender.write(base, sent_in(payload), pair_at(payload, 17), buffer)
+}
+
+// What is written from a payload; nothing where it is too short or names no way. The formats' writers take a reading, the coasting
+// mark or the head beside it, and the position part.
+fn write(
+    base: u16,
+    writer: Writer,
+    payload: &[u8],
+    buffer: &mut [u8],
+) -> Option<Result<usize, Refusal>> {
+    let reading = reading_in(payload);
+    let beside = pair_at(payload, 12);
+    let answer = match writer {
+        Writer::Meinberg => Meinberg::write(base, reading, beside != 0, buffer),
+        Writer::Erlangen => Erlangen::write(base, reading, beside != 0, payload.get(15..)?, buffer),
+        Writer::Frame => Ieee1344::write(base, reading, buffer),
+        Writer::Minute => Dcf77::write(base, reading, beside, buffer),
+        Writer::Bridge => bridge(base, payload.get(1..)?, buffer),
+        Writer::BridgeByWay => bridge_with(base, payload.get(2..)?, way_in(payload)?, buffer),
+        Writer::Telegram => send(base, payload, buffer),
     };
-    sender.write(base, sent_in(payload), pair(payload, 17), buffer)
+    Some(answer)
 }
 
-// 10 is the bridge: the room and the string; 16 has between them what becomes of the coasting mark; 15 is a telegram.
-fn write_all_by(base: u16, op: u8, payload: &[u8], buffer: &mut [u8]) -> Written {
-    match op {
-        10 => bridge(base, behind(payload, 1), buffer),
-        15 => send(base, payload, buffer),
-        16 => bridge_with(base, behind(payload, 2), way_in(payload), buffer),
-        _ => write_by(base, op, payload, buffer),
-    }
-}
-
-// Where a payload says how many bytes are lent.
-fn room_in(op: u8, payload: &[u8]) -> u8 {
-    match op {
-        10 | 16 => byte(payload, 0),
-        15 => byte(payload, 19),
-        _ => byte(payload, 14),
-    }
-}
-
-fn is_whole(op: u8, payload: &[u8]) -> bool {
-    if op == 10 {
-        return 1 <= payload.len();
-    }
-    if op == 15 {
-        return 20 <= payload.len();
-    }
-    if op == 16 {
-        return names_way(payload);
-    }
-    15 <= payload.len()
-}
-
-fn told(answer: Written) {
-    match answer {
-        Written::Length(n) => {
-            print_word(b"wrote");
-            print_number(b' ', n as u64)
-        }
-        Written::No(refusal) => print_refused(b' ', refusal),
-    }
-}
-
-fn told_with(answer: Written, buffer: &[u8]) {
-    told(answer);
+// A payload that has the byte for the room has all that is needed, but for a way. Each byte of the buffer was 165 before.
+pub(crate) fn written(base: u16, writer: Writer, payload: &[u8]) -> Result<(), Bad> {
+    let mut space = [165u8; 256];
+    let room = payload.get(room_at(writer)).ok_or(Bad)?;
+    let lent = &mut space[..usize::from(*room)];
+    let answer = write(base, writer, payload, lent).ok_or(Bad)?;
+    answer.print(b' ');
     print_word(b" ");
-    print_hex(buffer)
-}
-
-// Writes into as many bytes of the buffer as the payload says.
-fn write_part(base: u16, op: u8, payload: &[u8], buffer: &mut [u8]) {
-    let room = io::count(room_in(op, payload) as isize, buffer);
-    let answer = write_all_by(base, op, payload, &mut buffer[..room]);
-    let lent = io::count(room_in(op, payload) as isize, buffer);
-    told_with(answer, &buffer[..lent])
-}
-
-// Each byte of the buffer was 165 before.
-pub(crate) fn written(base: u16, op: u8, payload: &[u8]) {
-    if is_whole(op, payload) {
-        let mut space = [165u8; 256];
-        return write_part(base, op, payload, &mut space);
-    }
-    print_word(b"bad")
+    print_hex(lent);
+    Ok(())
 }

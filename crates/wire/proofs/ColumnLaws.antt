@@ -26,11 +26,5 @@ columns_at (a ∷ low) (b ∷ high) (c ∷ other) [] i h = absurd (not-suc-le-ze
 columns_at (a ∷ low) (b ∷ high) (c ∷ other) (d ∷ third) zero h = refl
 columns_at (a ∷ low) (b ∷ high) (c ∷ other) (d ∷ third) (suc i) h = columns_at low high other third i (le_of_suc-le-suc h)
 
--- a place that the layout and a text have is in each column
-abbrev pub InColumns : List ℕ → List ℕ → List ℕ → List ℕ → ℕ → Type 0
-InColumns low high other third i =
-    (i < length low) × (i < length high) × (i < length other) × (i < length third) × (i < length (columns low high other third))
-
-pub in_columns : (low high other third text : List ℕ) (i : ℕ) → i < min (length (columns low high other third)) (length text)
-    → InColumns low high other third i
-in_columns low high other third text i h = let e = columns-length low high other third in omega arith
+-- for a function of columns
+pub ruleset of_columns = (columns-length, columns_at)

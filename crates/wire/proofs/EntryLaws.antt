@@ -2,7 +2,7 @@
 use mathlib.Core.Path.{◌≡◌, refl, sym, ◌∙◌}
 use mathlib.Core.Bool.{Bool, true, false, ◌&&◌, ◌||◌}
 use mathlib.Core.Logic.{◌⊎◌, inl, inr}
-use Prim.Native.Nat.{ℕ, ◌+◌, ◌*◌, ◌/◌, ◌%◌, ◌≤◌, ◌<◌}
+use Prim.Native.Nat.{ℕ, ◌+◌, ◌*◌, ◌/◌, ◌%◌, ◌^◌, ◌≤◌, ◌<◌}
 use native.Mathlib.Omega.{arith}
 use lib.Dec.{leb, eqb}
 use borrow.Author.Tests.{le-leb, leb-true, eq-eqb, eqb-true}
@@ -48,6 +48,11 @@ allowed_packed low high other third x a b c =
     let t : (high + 256 * other + 65536 * third) % 256 ≡ high = omega arith in
     let u : (other + 256 * third) % 256 ≡ other = omega arith in
     rw (p, q, r, s, t, u)
+
+-- and its four bytes packed again
+pub packed_bytes : (e : ℕ) → e < 2 ^ 32 → packed (e % 256) (e / 256 % 256) (e / 65536 % 256) (e / 16777216 % 256) ≡ e
+unfolding packed
+packed_bytes e h = omega arith
 
 one_byte : (a x : ℕ) → (leb a x && leb x a) ≡ eqb x a
 one_byte a x = same_tests _ _ there back

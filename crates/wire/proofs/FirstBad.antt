@@ -66,10 +66,7 @@ module _ {ok : ℕ → Bool} {n g : ℕ} (r : Leads ok n g) where
   pub found_at : (k : ℕ) → k < n → ok k ≡ false → ((i : ℕ) → i < k → ok i ≡ true) → g ≡ k
   found_at k h e f = sym (stops_at k (reaches k (omega arith) f) e)
 
-  -- ---- a loop that looks at every place: whether all below i pass, at its start, a turn later, and at its end
-
-  pub all_none : true ≡ leb 0 g
-  all_none = sym (le-leb 0 g (omega arith))
+  -- ---- a loop that looks at every place: whether all below i pass, a turn later and at its end
 
   pub all_next : (i : ℕ) → i < n → (leb i g && ok i) ≡ leb (i + 1) g
   all_next i h = go (dec_lt g i) (ok i) refl
@@ -81,6 +78,3 @@ module _ {ok : ℕ → Bool} {n g : ℕ} (r : Leads ok n g) where
 
   pub all_is : (k : ℕ) → k ≡ n → leb k g ≡ true → k ≡ g
   all_is k q e = omega (arith, leb-true k g e, r.within)
-
-pub all_seen : {good : Bool} (g i n : ℕ) → n ≤ i → i ≤ n → good ≡ leb i g → good ≡ leb n g
-all_seen g i n h k e = let q : n ≡ i = omega arith in rw q e

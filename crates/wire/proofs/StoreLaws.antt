@@ -1,13 +1,14 @@
 -- Storing bytes into a buffer: what is stored stands there, the length stays, and two stores side by side are one.
-use mathlib.Core.Path.{◌≡◌, sym, ◌∙◌}
+use mathlib.Core.Path.{◌≡◌, refl, sym, ◌∙◌}
 use mathlib.Core.Bool.{true, false}
 use mathlib.Core.List.{List, [], ◌++◌, append_assoc}
 use Prim.Native.Nat.{ℕ, ◌+◌, ◌≤◌, ◌<◌}
 use native.Mathlib.Decide.{dec_le}
-use native.Mathlib.Numerals.{add-one}
 use native.Mathlib.Omega.{arith}
-use lib.ListN.{length, get_or, take, drop, set, length-append, length-take, length-drop}
-use lib.Seq.{paste, paste-zero, paste-suc, length-take-le, take_at, drop_at, drop-drop}
+use lib.ListN.{length, take, drop, length-append, length-take, length-drop}
+use lib.Seq.{paste-zero, take_all, take_at, drop_at, drop-drop}
+use borrow.Rule.Slice.PartMut.{put_mid}
+use Rattle.std.proofs.lemmas.Slice.{put_mid-paste}
 use borrow.Author.Tests.{le-leb, lt-leb, leb-true}
 use Rattle.wire.specs.Put.{fits, stored}
 
@@ -34,6 +35,11 @@ stored_is at t l h = rw (is_fit at t l h)
 pub stored_none : (at : ℕ) (t l : List ℕ) → length l < at + length t → stored at t l ≡ l
 unfolding stored
 stored_none at t l h = rw (no_fit at t l h)
+
+-- as a copy over a part of the buffer leaves it
+pub stored_part : (at k : ℕ) (t part l : List ℕ) → at + length t ≤ length l → k ≡ length t → part ≡ t → put_mid at k l part ≡ stored at t l
+stored_part at k t part l h e p =
+    put_mid-paste at k l part t (length t) p (sym e) refl ∙ sym (stored_is at t l h ∙ rw (take_all (length t) t (omega arith)))
 
 pub stored_first : (t l : List ℕ) → length t ≤ length l → stored 0 t l ≡ t ++ drop (length t) l
 stored_first t l h = let e : 0 + length t ≡ length t = omega arith in stored_is 0 t l (omega arith) ∙ rw e
@@ -72,12 +78,6 @@ stored_behind at a b l h =
     ∙ rw (stored_there at a l k, ← drop-drop, stored_after at a l k, drop-drop, z, append_assoc (take at l) a b, ← length-append a b)
     (sym (stored_is at (a ++ b) l (simp length-append (omega arith))))
 
--- ---- a loop that stores one byte a turn
+-- ---- for a function that stores
 
-partly : (at : ℕ) (t l : List ℕ) (i : ℕ) → at + i ≤ length l → i ≤ length t → stored at (take i t) l ≡ paste l at t i
-partly at t l i h k = let e : length (take i t) ≡ i = length-take-le i t k in stored_is at (take i t) l (rw e h) ∙ rw e
-
-pub store_next : (at : ℕ) (t l : List ℕ) (i : ℕ) → at + i < length l → i < length t
-    → set (stored at (take i t) l) (at + i) (get_or t i 0) ≡ stored at (take (i + 1) t) l
-store_next at t l i h k =
-    rw (partly at t l i (omega arith) (omega arith), partly at t l (i + 1) (omega arith) (omega arith), add-one) (paste-suc l at t i 0 h k)
+pub ruleset storing = (is_fit, no_fit, stored_none, stored_part)

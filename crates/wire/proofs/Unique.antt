@@ -4,10 +4,10 @@ use borrow.Fn.Kinds.{Dens, res_t, ended_of}
 use contract.Lifetimes.{Lfts}
 use denote.Triple.Clauses.{AtExit}
 use Rattle.laws.proofs.Coincide.{Coincide}
-use Rattle.wire.proofs.layout.all_allowed.Reads as all-allowed-reads
-use Rattle.wire.proofs.layout.all_allowed.Kinds as all-allowed-kinds
-use Rattle.wire.proofs.layout.good_places_by.Reads as good-places-by-reads
-use Rattle.wire.proofs.layout.good_places_by.Kinds as good-places-by-kinds
+use Rattle.wire.proofs.layout.Columns.all_allowed.Reads as all-allowed-reads
+use Rattle.wire.proofs.layout.Columns.all_allowed.Kinds as all-allowed-kinds
+use Rattle.wire.proofs.layout.Columns.good_places.Reads as columns-good-places-reads
+use Rattle.wire.proofs.layout.Columns.good_places.Kinds as columns-good-places-kinds
 use Rattle.wire.proofs.layout.good_places.Reads as good-places-reads
 use Rattle.wire.proofs.layout.good_places.Kinds as good-places-kinds
 use Rattle.wire.proofs.layout.byte_at.Reads as byte-at-reads
@@ -28,11 +28,11 @@ use Rattle.wire.proofs.put.put_at.Kinds as put-at-kinds
 pub good_places_one : Coincide 2 good-places-kinds.ps good-places-kinds.r good-places-reads.Post
 good_places_one κs a x y e f p q = cc
 
-pub all_allowed_one : Coincide 5 all-allowed-kinds.ps all-allowed-kinds.r all-allowed-reads.Post
+pub all_allowed_one : Coincide 2 all-allowed-kinds.ps all-allowed-kinds.r all-allowed-reads.Post
 all_allowed_one κs a x y e f p q = cc
 
-pub good_places_by_one : Coincide 5 good-places-by-kinds.ps good-places-by-kinds.r good-places-by-reads.Post
-good_places_by_one κs a x y e f p q = cc
+pub columns_good_places_one : Coincide 2 columns-good-places-kinds.ps columns-good-places-kinds.r columns-good-places-reads.Post
+columns_good_places_one κs a x y e f p q = cc
 
 pub byte_at_one : Coincide 1 byte-at-kinds.ps byte-at-kinds.r byte-at-reads.Post
 byte_at_one κs a x y e f p q = cc

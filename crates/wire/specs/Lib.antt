@@ -1,3 +1,4 @@
 pub mod Layout
 pub mod Digits
 pub mod Put
+pub mod Columns

@@ -43,7 +43,7 @@ use Rattle.telegram.specs.Telegram.{utc_sent, named_minute, named_summer, same_d
 use Rattle.telegram.specs.Faults as sending
 use Rattle.text.specs.Decimal.{digits_before, decimal}
 use Rattle.book.specs.Body.{body_length, read_body}
-use Rattle.book.specs.Book.{record_at, next_at, records_from}
+use Rattle.book.specs.Book.{standing_at, next_at, records_from}
 use Rattle.listing.specs.Listing.{line_at, lines_of, body_text, listing}
 use Rattle.worked.specs.Questions.{Case, answer_by, answer_to}
 use Rattle.worked.specs.Given.{with_ones, turned}
@@ -96,5 +96,5 @@ unfolding cases pinned month_ends places telegrams clock_strings coasting_marks 
     rules.weekday_bad rules.date_bad rules.too_late rules.set_day_bad rules.day_in rules.crossed rules.rule_bad
     utc_sent named_minute named_summer same_date announces_leap telegram_reading
     sending.time_bad sending.leap_date_bad sending.outside sending.fault_with sending.send_fault sending.telegram_fault
-    body_length read_body record_at next_at records_from decimal digits_before line_at lines_of body_text listing
+    body_length read_body standing_at next_at records_from decimal digits_before line_at lines_of body_text listing
 worked = (refl, refl, refl, refl, refl, refl, refl, refl, refl)

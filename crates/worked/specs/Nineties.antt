@@ -1,8 +1,7 @@
 -- L12, "Old books from the nineties": the base 1990, stamps before 2000, and what another base meets at each reader, each writer, at
 -- stamping, at the bridge and in a listing. In literal numbers and bytes.
-use Rattle.std.specs.Prelude.{true, false, List, [], ◌∷◌, ◌++◌, ℕ, take, drop}
+use Rattle.std.specs.Prelude.{true, false, List, [], ◌∷◌, ◌++◌, ℕ, take, drop, None, Some}
 use Rattle.reading.specs.declared.Reading.{Reading}
-use Rattle.telegram.specs.declared.LeapSecond.TheVariants.{None, Closes}
 use Rattle.worked.specs.Questions.{
   Case,
   Question,
@@ -160,7 +159,7 @@ nineties =
     ∷ by1990 (bridged june94 (sevens 100)) (wrote 100 june_frame)
     ∷ by1990 (marks july_marks) (told_minute july94 0)
     ∷ by1990 (to_marks july94 0 (sevens 61)) (wrote 61 july_marks)
-    ∷ by1990 (telegram (sending.plant (Closes (sending.on 1994 6 30))) (sending.at 1994 6 30 23 59) 0 (sevens 61)) (wrote 61 july_marks)
+    ∷ by1990 (telegram (sending.plant (Some (sending.on 1994 6 30))) (sending.at 1994 6 30 23 59) 0 (sevens 61)) (wrote 61 july_marks)
     ∷ by1990 (listed (1 ∷ june94)) (text june_lines)
     ∷ by2000 (listed (1 ∷ new_year)) (text new_year_lines)
     -- with the base 2000 the two digits are of 2094, where the weekday is another; the frame has none and says that year
@@ -187,7 +186,7 @@ nineties =
     -- a sender is held to the base's hundred: the minute being sent by 16, the minute named by 12, a leap date by 9
     ∷ by1990 (telegram (sending.plant None) (sending.at 1989 12 31 23 59) 0 (sevens 60)) (wrote_none 16 0 (sevens 60))
     ∷ by1990 (telegram (sending.plant None) (sending.at 2089 12 31 22 59) 0 (sevens 60)) (wrote_none 12 0 (sevens 60))
-    ∷ by1990 (telegram (sending.plant (Closes (sending.on 2090 1 31))) (sending.at 1994 6 30 23 59) 0 (sevens 61)) (wrote_none 9 0 (sevens 61))
+    ∷ by1990 (telegram (sending.plant (Some (sending.on 2090 1 31))) (sending.at 1994 6 30 23 59) 0 (sevens 61)) (wrote_none 9 0 (sevens 61))
     -- "any other base .. is 19", at place 0, of what is good with either base
     ∷ by1991 (stamp (case6 (plus 4))) (refused 19 0)
     ∷ by1991 (clock_string june94) (refused 19 0)
@@ -218,7 +217,7 @@ nineties =
     ∷ by1991 (telegram (sending.plant None) (sending.at 2024 2 29 11 33) 0 (sevens 59)) (wrote_none 1 0 (sevens 59))
     -- but 60 bytes are room enough for a refusal, of a long minute too
     ∷ by1991 (to_marks july94 0 (sevens 60)) (wrote_none 19 0 (sevens 60))
-    ∷ by1991 (telegram (sending.plant (Closes (sending.on 1994 6 30))) (sending.at 1994 6 30 23 59) 0 (sevens 60)) (wrote_none 19 0 (sevens 60))
+    ∷ by1991 (telegram (sending.plant (Some (sending.on 1994 6 30))) (sending.at 1994 6 30 23 59) 0 (sevens 60)) (wrote_none 19 0 (sevens 60))
     -- and it before every other: a byte, the position's too, a rule of summer time, a time
     ∷ by1991 (clock_string (wrong_first june94)) (refused 19 0)
     ∷ by1991 (pulses (wrong_first frame6)) (refused 19 0)

@@ -1,33 +1,24 @@
 -- What a worked case asks, and what the written definitions answer: those that the contracts of readers, writers, stamping, the
 -- bridge, the sender and the listing cite.
-use Rattle.std.specs.Prelude.{Bool, List, ℕ, suc, ℤ, pos, negsuc, length}
+use Rattle.reading.specs.Faults.{Verdict}
+use Rattle.std.specs.Prelude.{Bool, List, ℕ, suc, ℤ, pos, negsuc, length, Err, Ok}
 use Rattle.calendar.specs.declared.Date.{Date}
 use Rattle.calendar.specs.Calendar.{weekday_of}
 use Rattle.reading.specs.declared.Reading.{Reading}
-use Rattle.reading.specs.declared.Verdict.{Verdict}
-use Rattle.reading.specs.declared.Written.{Written}
-use Rattle.reading.specs.declared.Written.TheVariants as writing
-use Rattle.reading.specs.declared.Stamp.{Stamp}
-use Rattle.reading.specs.declared.Stamp.TheVariants.{At, Refused}
 use Rattle.reading.specs.Years.{usual_base}
-use Rattle.reading.specs.Stamps.{stamp_of}
-use Rattle.reading.specs.Writing.{written_of, filled}
-use Rattle.clock_string.specs.declared.Answer as strings
-use Rattle.clock_string.specs.declared.Answer.TheVariants as string
-use Rattle.clock_string.specs.Reader.{read_string}
+use Rattle.reading.specs.Stamps.{stamp_of, Stamp}
+use Rattle.reading.specs.Writing.{written_of, filled, Written}
+use Rattle.clock_string.specs.declared.Told.TheVariants as string
+use Rattle.clock_string.specs.Reader.{read_string, Answer as StringAnswer}
 use Rattle.clock_string.specs.Position.{position_of}
 use Rattle.meinberg.specs.Layout.{text_length}
 use Rattle.meinberg.specs.Writing.{bytes_of as meinbergBytes, write_fault as meinbergFault}
 use Rattle.erlangen.specs.Layout.{size}
 use Rattle.erlangen.specs.Writing.{bytes_of as erlangenBytes, write_fault as erlangenFault}
-use Rattle.irig.specs.declared.Answer as frames
-use Rattle.irig.specs.declared.Answer.TheVariants as frame
-use Rattle.irig.specs.Faults.{frame_length, read_frame}
+use Rattle.irig.specs.Faults.{frame_length, read_frame, Answer as FrameAnswer}
 use Rattle.irig.specs.Writing.{frame_of, write_fault as frameFault}
-use Rattle.dcf77.specs.declared.Answer as minutes
-use Rattle.dcf77.specs.declared.Answer.TheVariants as minute
 use Rattle.dcf77.specs.Forms.{length_of, due_long}
-use Rattle.dcf77.specs.Reader.{read_dcf77}
+use Rattle.dcf77.specs.Reader.{read_dcf77, Answer as MinuteAnswer}
 use Rattle.dcf77.specs.Writer.{bytes_of as minuteBytes, write_fault as minuteFault}
 use Rattle.bridge.specs.declared.Coasting.{Coasting}
 use Rattle.bridge.specs.declared.Coasting.TheVariants.{Worse}
@@ -102,31 +93,31 @@ of_number (pos n) = stamped n
 of_number (negsuc n) = stamped_before (suc n)
 
 abbrev pub of_stamp : Stamp → Answer
-of_stamp (At v) = of_number v.0
-of_stamp (Refused x) = refused x.code x.place
+of_stamp (Ok v) = of_number v.0
+of_stamp (Err x) = refused x.code x.place
 
-abbrev pub of_string : strings.Answer → Answer
-of_string (string.Meinberg r coasting) = told_meinberg r coasting
-of_string (string.Erlangen r coasting) = told_erlangen r coasting
-of_string (string.No x) = refused x.code x.place
+abbrev pub of_string : StringAnswer → Answer
+of_string (Ok (string.Meinberg r coasting)) = told_meinberg r coasting
+of_string (Ok (string.Erlangen r coasting)) = told_erlangen r coasting
+of_string (Err x) = refused x.code x.place
 
 -- the stamp of a string's answer; a refused string has its own refusal
-abbrev pub stamp_of_answer : ℕ → strings.Answer → Answer
-stamp_of_answer base (string.Meinberg r coasting) = of_stamp (stamp_of base r)
-stamp_of_answer base (string.Erlangen r coasting) = of_stamp (stamp_of base r)
-stamp_of_answer base (string.No x) = refused x.code x.place
+abbrev pub stamp_of_answer : ℕ → StringAnswer → Answer
+stamp_of_answer base (Ok (string.Meinberg r coasting)) = of_stamp (stamp_of base r)
+stamp_of_answer base (Ok (string.Erlangen r coasting)) = of_stamp (stamp_of base r)
+stamp_of_answer base (Err x) = refused x.code x.place
 
-abbrev pub of_frame : frames.Answer → Answer
-of_frame (frame.Time r) = told r
-of_frame (frame.No x) = refused x.code x.place
+abbrev pub of_frame : FrameAnswer → Answer
+of_frame (Ok r) = told r
+of_frame (Err x) = refused x.code x.place
 
-abbrev pub of_minute : minutes.Answer → Answer
-of_minute (minute.Time r head) = told_minute r head
-of_minute (minute.No x) = refused x.code x.place
+abbrev pub of_minute : MinuteAnswer → Answer
+of_minute (Ok (r, head)) = told_minute r head
+of_minute (Err x) = refused x.code x.place
 
 abbrev pub of_written : Written → List ℕ → Answer
-of_written (writing.Length n) after = wrote n after
-of_written (writing.No x) after = wrote_none x.code x.place after
+of_written (Ok n) after = wrote n after
+of_written (Err x) after = wrote_none x.code x.place after
 
 -- a writer that found this verdict, whose format has this length and these bytes, and a buffer
 abbrev pub after_writing : Verdict → ℕ → List ℕ → List ℕ → Answer

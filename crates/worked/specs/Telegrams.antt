@@ -1,12 +1,11 @@
 -- A plant's own DCF77, which request L8 adds: the days of change, the minutes around them and around a leap second with the marks that are
 -- sent, and each code that a sender can refuse with. In literal numbers and marks.
-use Rattle.std.specs.Prelude.{List, [], ◌∷◌, ◌++◌, ℕ}
+use Rattle.telegram.specs.Telegram.{LeapSecond}
+use Rattle.std.specs.Prelude.{List, [], ◌∷◌, ◌++◌, ℕ, None, Some}
 use Rattle.calendar.specs.declared.Date.{Date}
 use Rattle.summer.specs.declared.SetDay.{SetDay}
 use Rattle.telegram.specs.declared.Sent.{Sent}
 use Rattle.telegram.specs.declared.Sender.{Sender}
-use Rattle.telegram.specs.declared.LeapSecond.{LeapSecond}
-use Rattle.telegram.specs.declared.LeapSecond.TheVariants.{None, Closes}
 use Rattle.worked.specs.Questions.{Case, gives, change_on, telegram, date, wrote, wrote_none}
 use Rattle.worked.specs.Given.{minute_with, sevens}
 
@@ -38,7 +37,7 @@ february end = sender (set 2 25 7) end None
 
 -- the leap second of 31 December 2016
 abbrev leap2016 : LeapSecond
-leap2016 = Closes (on 2016 12 31)
+leap2016 = Some (on 2016 12 31)
 
 -- ---- minutes
 
@@ -112,9 +111,9 @@ telegrams =
     ∷ gives (telegram (plant None) (at 2023 2 29 0 0) 0 (sevens 60)) (wrote_none 16 0 (sevens 60))
     ∷ gives (telegram (plant None) (at 2017 1 1 0 0) 32768 (sevens 60)) (wrote_none 17 0 (sevens 60))
     -- leap seconds that no month end of the usual base's hundred has, far from the minute: 30 December, month 13, 31 December 1999
-    ∷ gives (telegram (plant (Closes (on 2016 12 30))) (at 2024 7 1 0 0) 0 (sevens 60)) (wrote_none 9 0 (sevens 60))
-    ∷ gives (telegram (plant (Closes (on 2016 13 0))) (at 2024 7 1 0 0) 0 (sevens 60)) (wrote_none 9 0 (sevens 60))
-    ∷ gives (telegram (plant (Closes (on 1999 12 31))) (at 2024 7 1 0 0) 0 (sevens 60)) (wrote_none 9 0 (sevens 60))
+    ∷ gives (telegram (plant (Some (on 2016 12 30))) (at 2024 7 1 0 0) 0 (sevens 60)) (wrote_none 9 0 (sevens 60))
+    ∷ gives (telegram (plant (Some (on 2016 13 0))) (at 2024 7 1 0 0) 0 (sevens 60)) (wrote_none 9 0 (sevens 60))
+    ∷ gives (telegram (plant (Some (on 1999 12 31))) (at 2024 7 1 0 0) 0 (sevens 60)) (wrote_none 9 0 (sevens 60))
     -- the last hour of 2099 names 2100 by local time, its last minute by UTC too
     ∷ gives (telegram (plant None) (at 2099 12 31 22 59) 0 (sevens 60)) (wrote_none 12 0 (sevens 60))
     ∷ gives (telegram (plant None) (at 2099 12 31 23 59) 0 (sevens 60)) (wrote_none 12 0 (sevens 60))
@@ -123,6 +122,6 @@ telegrams =
     ∷ gives (telegram (sender (set 0 0 0) autumn None) (at 1999 13 32 24 60) 32768 (sevens 60)) (wrote_none 18 0 (sevens 60))
     ∷ gives (telegram (plant None) (at 1999 13 32 24 60) 32768 (sevens 60)) (wrote_none 15 0 (sevens 60))
     ∷ gives (telegram (plant None) (at 1999 13 32 23 59) 32768 (sevens 60)) (wrote_none 16 0 (sevens 60))
-    ∷ gives (telegram (plant (Closes (on 2016 12 30))) (at 2099 12 31 23 59) 32768 (sevens 60)) (wrote_none 17 0 (sevens 60))
-    ∷ gives (telegram (plant (Closes (on 2016 12 30))) (at 2099 12 31 23 59) 0 (sevens 60)) (wrote_none 9 0 (sevens 60))
+    ∷ gives (telegram (plant (Some (on 2016 12 30))) (at 2099 12 31 23 59) 32768 (sevens 60)) (wrote_none 17 0 (sevens 60))
+    ∷ gives (telegram (plant (Some (on 2016 12 30))) (at 2099 12 31 23 59) 0 (sevens 60)) (wrote_none 9 0 (sevens 60))
     ∷ []

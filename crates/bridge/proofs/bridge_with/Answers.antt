@@ -1,20 +1,19 @@
 -- `bridge::bridge_with` meets its contract: the writer of the frame, which could refuse a reading, refuses an odd quarter alone of
 -- those that a string says. Assumes nothing.
+use Rattle.strings.specs.Checks.{Answer}
+use Rattle.std.specs.Prelude.{Err, Ok}
 use mathlib.Core.Bool.{Bool, true, false}
 use mathlib.Core.List.{List}
 use mathlib.Core.Path.{◌≡◌, refl, sym, ap, ◌∙◌}
+use Rattle.std.proofs.Common.{rules}
 use Prim.Native.Nat.{ℕ, ◌≤◌, ◌<◌}
 use native.Mathlib.Omega.{arith}
 use lib.ListN.{length}
 use Rattle.reading.specs.declared.Reading.{Reading}
 use Rattle.reading.specs.declared.Refusal.{Refusal}
 use Rattle.reading.specs.declared.Fault.TheVariants.{Length}
-use Rattle.reading.specs.declared.Written.{Written}
-use Rattle.reading.specs.declared.Written.TheVariants.{No as Refused}
 use Rattle.reading.specs.Faults.{number}
-use Rattle.reading.specs.Writing.{written_of, filled}
-use Rattle.strings.specs.declared.Answer.{Answer}
-use Rattle.strings.specs.declared.Answer.TheVariants.{Time, No}
+use Rattle.reading.specs.Writing.{written_of, filled, Written}
 use Rattle.clock_string.specs.Reader.{read_string, whichever}
 use Rattle.clock_string.proofs.ReadLaws.{Tells, refused_is}
 use Rattle.irig.specs.Offset.{odd_quarter}
@@ -32,14 +31,11 @@ module _ (base : ℕ) (s : List ℕ) (way : Coasting) (out : List ℕ) where
   abbrev Right : Written → List ℕ → Type 0
   Right w after = (w ≡ bridge_answer base s (length out)) × (after ≡ bridge_filled way base s out)
 
-  too_short : (n : Refusal) (w : Written) (after : List ℕ) → length out < frame_length → n ≡ number Length → w ≡ Refused n → after ≡ out → Right w after
-  too_short n w after h q e f = let l = too-short-first base s way out h in (e ∙ ap Refused q ∙ sym l.0, f ∙ sym l.1)
+  too_short : (n : Refusal) (w : Written) (after : List ℕ) → length out < frame_length → n ≡ number Length → w ≡ Err n → after ≡ out → Right w after
+  too_short n w after h q e f = let l = too-short-first base s way out h in (e ∙ ap Err q ∙ sym l.0, f ∙ sym l.1)
 
   module _ (enough : frame_length ≤ length out) (a : Answer) (is : a ≡ whichever (read_string base s)) where
-    refused : (x : Refusal) (w : Written) (after : List ℕ) → a ≡ No x → w ≡ Refused x → after ≡ out → Right w after
-    refused x w after e f g = let l = string-refusal-unchanged base s way out enough x (refused_is (read_string base s) x (sym is ∙ e)) in (f ∙ sym l.0, g ∙ sym l.1)
-
-    wrote : (r p : Reading) (coasting : Bool) (w : Written) (after : List ℕ) → a ≡ Time r coasting → p ≡ carried_by way coasting r
+    wrote : (r p : Reading) (coasting : Bool) (w : Written) (after : List ℕ) → a ≡ Ok (r, coasting) → p ≡ carried_by way coasting r
         → w ≡ written_of (write_fault base p (length out)) frame_length → after ≡ filled (write_fault base p (length out)) (frame_of p) out
         → Right w after
     wrote r p coasting w after e q answer bytes =
@@ -65,21 +61,22 @@ module _ (base : ℕ) (s : List ℕ) (way : Coasting) (out : List ℕ) where
 pub returns-then-out-lt-LENGTH : goal.returns-then-out-lt-LENGTH
 returns-then-out-lt-LENGTH c =
     let a = c.args in
-    let both = too_short _ a.s.now a.way a.out.now c.refusal_of.result c.refuse.result c.refuse.new.out (omega arith)
-    c.refusal_of.ensures c.refuse.ensures.value c.refuse.ensures.out_unchanged in
+    let both = too_short _ a.s.now a.way a.out.now c.into.result _ _ (omega arith) c.into.ensures refl refl in
     record { value = both.0; out_after = both.1 }
 
-pub returns-in-Time : goal.returns-in-Time
-returns-in-Time c =
+pub returns-in_err-read : goal.returns-in_err-read
+returns-in_err-read c =
     let a = c.args in
-    let both = wrote _ a.s.now a.way a.out.now c.if-out-lt-LENGTH.false c.whichever-answer.result (c.whichever-answer.ensures ∙ ap whichever c.read.ensures)
-    c.in-Time.r c.carried_by.result c.in-Time.coasting c.write.result c.write.new.out c.in-Time.is c.carried_by.ensures
+    let refusal = c.in_err-read.field-0.0 in
+    let both = string-refusal-unchanged _ a.s.now a.way a.out.now c.if-out-lt-LENGTH.false refusal (sym c.read.ensures ∙ c.in_err-read.was) in
+    record { value = rw both.0 (search rules); out_after = sym both.1 }
+
+pub returns : goal.returns
+returns c =
+    let a = c.args in
+    let timed = c.timed-coasting.result in
+    let tells = ap whichever (sym c.read.ensures ∙ c.in_ok-read.was) ∙ ap Ok (sym c.timed-coasting.ensures) in
+    let both = wrote _ a.s.now a.way a.out.now c.if-out-lt-LENGTH.false (whichever (read_string a.base a.s.now)) refl
+    timed.0 c.carried_by.result timed.1 c.write.result c.write.new.out tells c.carried_by.ensures
     c.write.ensures.value c.write.ensures.out_after in
-    record { value = both.0; out_after = both.1 }
-
-pub returns-in-No : goal.returns-in-No
-returns-in-No c =
-    let a = c.args in
-    let both = refused _ a.s.now a.way a.out.now c.if-out-lt-LENGTH.false c.whichever-answer.result (c.whichever-answer.ensures ∙ ap whichever c.read.ensures)
-    c.in-No.refusal c.refuse-in-No.result c.refuse-in-No.new.out c.in-No.is c.refuse-in-No.ensures.value c.refuse-in-No.ensures.out_unchanged in
     record { value = both.0; out_after = both.1 }

@@ -15,22 +15,24 @@ returns-then-s-eq-LENGTH c =
       ref_ptr_value = rw p.1;
     }
 
-pub slice_bounds-result-end-in-Time : goal.slice_bounds-result-end-in-Time
-slice_bounds-result-end-in-Time c =
+pub slice_bounds-result-end-in-Ok : goal.slice_bounds-result-end-in-Ok
+slice_bounds-result-end-in-Ok c =
     let s = c.args.s.now in
-    let l : length s ≡ size = accepted-length _ s c.in-Time.field-0 c.in-Time.field-1 (sym c.for_clock_string.ensures ∙ c.in-Time.is) in
+    let timed = c.in-Ok.field-0 in
+    let l : length s ≡ size = accepted-length _ s timed.0 timed.1 (sym c.for_clock_string.ensures ∙ c.in-Ok.is) in
     omega arith
 
-pub returns-in-Time : goal.returns-in-Time
-returns-in-Time c =
-    let p = part_of_accepted _ c.args.s.now c.in-Time.field-0 c.in-Time.field-1 (sym c.for_clock_string.ensures ∙ c.in-Time.is) in record {
+pub returns-in-Ok : goal.returns-in-Ok
+returns-in-Ok c =
+    let timed = c.in-Ok.field-0 in
+    let p = part_of_accepted _ c.args.s.now timed.0 timed.1 (sym c.for_clock_string.ensures ∙ c.in-Ok.is) in record {
       result_value = p.0;
       ref_ptr_value = rw p.1;
     }
 
-pub returns-in-No : goal.returns-in-No
-returns-in-No c =
-    let p = no_part_of_refused _ c.args.s.now c.in-No.field-0 (sym c.for_clock_string.ensures ∙ c.in-No.is) in record {
+pub returns-in-Err : goal.returns-in-Err
+returns-in-Err c =
+    let p = no_part_of_refused _ c.args.s.now c.in-Err.field-0 (sym c.for_clock_string.ensures ∙ c.in-Err.is) in record {
       result_value = p.0;
       ref_ptr_value = rw p.1;
     }

@@ -1,10 +1,11 @@
--- `listing::list` meets its contract: header and lines are stored side by side, and there is room for both. Assumes nothing.
+-- Header and lines are written side by side, and there is room for both.
+use Rattle.std.specs.Prelude.{Err, Ok}
+use Rattle.std.proofs.Common.{rules}
 use native.Mathlib.Omega.{arith}
 use mathlib.Core.List.{List, ◌++◌}
 use mathlib.Core.Path.{◌≡◌, refl, ap, ◌∙◌}
 use Prim.Native.Nat.{ℕ, ◌+◌, ◌≤◌, ◌<◌}
 use lib.ListN.{length, drop}
-use Rattle.reading.specs.declared.Written.TheVariants.{Length, No}
 use Rattle.wire.specs.Put.{stored}
 use Rattle.wire.proofs.StoreLaws.{stored_first}
 use Rattle.listing.specs.Listing.{header, body_text, listing, room_for_any}
@@ -31,31 +32,36 @@ pub returns-then-out-lt-ROOM : goal.returns-then-out-lt-ROOM
 returns-then-out-lt-ROOM c =
     let s = c.args in
     let h : length s.out.now < room_for_any = omega arith in record {
-      value = rw (too_small (length s.out.now) h) (ap No c.refusal_of.ensures);
+      value = rw (too_small (length s.out.now) h) (ap Err c.into.ensures);
       out_after = rw (too_small (length s.out.now) h) refl;
     }
 
-pub put_body-end-requires : goal.put_body-end-requires
-put_body-end-requires c =
-    let s = c.args in
-    let h : room_for_any ≤ length s.out.now = omega arith in
-    let p = c.put-start.ensures in
-    then-room 0 header (body_text s.base s.book.now) s.out.now (both_room s.base s.book.now s.out.now h) _ _ p.value p.out_after
+pub put_body-requires : goal.put_body-requires
+put_body-requires c =
+    let b = c.args.book.now in
+    let l = c.args.out.now in
+    let room = both_room c.args.base b l (omega arith) in
+    then-room 0 header (body_text c.args.base b) l room _ _ c.put.ensures.ends c.put.ensures.holds
 
-pub returns : goal.returns
-returns c =
-    let s = c.args in
-    let b = s.book.now in
-    let l = s.out.now in
+pub returns-clause-value : goal.returns-clause-value
+returns-clause-value c =
+    let b = c.args.book.now in
+    let l = c.args.out.now in
     let h : room_for_any ≤ length l = omega arith in
-    let base = s.base in
-    let room = both_room base b l h in
-    let p = c.put-start.ensures in
-    let q = c.put_body-end.ensures in record {
-      value =
-          rw (large_enough (length l) h)
-          (ap Length (counted base b _ (both_end 0 header (body_text base b) l room _ _ p.value p.out_after _ q.value)));
-      out_after =
-          rw (large_enough (length l) h)
-          (whole base b l _ h (both-held 0 header (body_text base b) l room _ _ p.value p.out_after _ q.out_after));
-    }
+    let room = both_room c.args.base b l h in
+    let p = c.put.ensures in
+    let q = c.put_body.ensures in
+    rw (large_enough (length l) h) (ap Ok (counted c.args.base b _ (both_end 0 header (body_text c.args.base b) l room _ _ p.ends p.holds _ q.ends)))
+
+-- the page's last value is the buffer's: the search finds it, since every `put` keeps the page's buffer
+pub returns-clause-out_after : goal.returns-clause-out_after
+returns-clause-out_after c =
+    let b = c.args.book.now in
+    let l = c.args.out.now in
+    let h : room_for_any ≤ length l = omega arith in
+    let room = both_room c.args.base b l h in
+    let p = c.put.ensures in
+    let q = c.put_body.ensures in
+    let held : c.put_body.new.self.bytes.now ≡ listing c.args.base b ++ drop (length (listing c.args.base b)) l =
+    whole c.args.base b l _ h (both-held 0 header (body_text c.args.base b) l room _ _ p.ends p.holds _ q.holds) in
+    rw (large_enough (length l) h) (search rules)

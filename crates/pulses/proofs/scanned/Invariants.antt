@@ -1,10 +1,9 @@
--- `pulses::scanned` meets its contract: after i turns the first i pulses are good, and the array holds what they add. Assumes nothing.
-use Prim.Native.Nat.{◌≤◌, ◌-◌}
+-- `pulses::scanned` meets its contract: the pulses that are yielded are good, and the array holds what they add. Assumes nothing.
+use mathlib.Core.Path.{◌≡◌}
+use lib.ListN.{length, take}
+use Rattle.pulses.specs.Row.{most_places}
 use Rattle.pulses.proofs.ScanLaws.{Passed}
 use Rattle.pulses.proofs.scanned.Given as goal
 
-abbrev pub invariant-loop-i : goal.invariant-loop-i
-invariant-loop-i l = (l.i ≤ l.end) × Passed l.table l.pulses l.sums l.i
-
-abbrev pub decreases-loop-i : goal.decreases-loop-i
-decreases-loop-i l = l.end - l.i
+abbrev pub invariant-loop-entry : goal.invariant-loop-entry
+invariant-loop-entry l = (l.good ≡ length l.yielded) × Passed (take most_places l.table) l.pulses l.sums (length l.yielded)

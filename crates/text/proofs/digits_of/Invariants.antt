@@ -3,7 +3,7 @@ use Rattle.text.proofs.DecimalLaws.{Stored}
 use Rattle.text.proofs.digits_of.Given as goal
 
 abbrev pub invariant-loop-rest : goal.invariant-loop-rest
-invariant-loop-rest l = Stored l.number l.bytes l.from l.rest
+invariant-loop-rest l = Stored l.number l.buffer l.from l.rest
 
 abbrev pub decreases-loop-rest : goal.decreases-loop-rest
 decreases-loop-rest l = l.rest

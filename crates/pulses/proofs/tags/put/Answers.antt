@@ -1,30 +1,14 @@
--- `pulses::tags::put` meets its contract: after each turn the cells are those of one pulse more. Assumes nothing.
-use native.Mathlib.Omega.{arith}
-use mathlib.Core.Path.{◌≡◌, sym, ap, ◌∙◌}
-use lib.ListN.{length}
-use Rattle.pulses.proofs.CellLaws.{cells_long, cells_more}
+-- `pulses::tags::put` meets its contract: after each turn one pulse more is in its cell. Assumes nothing.
+use Rattle.pulses.proofs.CellLaws.{put_none, put_next}
+use Rattle.pulses.proofs.ZipLaws.{turn_at}
 use Rattle.pulses.proofs.tags.put.Goals as goal
 
-pub loop-i-init : goal.loop-i-init
-loop-i-init c = (omega arith, omega arith, c.requires.cells_value)
+pub loop-tag-init : goal.loop-tag-init
+loop-tag-init c = put_none _ _ _
 
-pub overflow_cast-cells : goal.overflow_cast-cells
-overflow_cast-cells c = record { fits = omega (arith, c.type_inv.tags c.loop-i.i) }
-
-pub bounds-cells-tags : goal.bounds-cells-tags
-bounds-cells-tags c =
-    omega (arith, c.type_inv.tags c.loop-i.i, ap length c.loop-i.invariant.2, cells_long c.args.tags.now c.args.pulses.now c.loop-i.i)
-
-pub loop-i-preserved : goal.loop-i-preserved
-loop-i-preserved c = (omega arith, omega arith, cells_more _ _ _ _ c.loop-i.invariant.2)
-
-pub shape_of-cells : goal.shape_of-cells
-shape_of-cells c =
-    let tags = c.args.tags.now in
-    let pulses = c.args.pulses.now in
-    ap length c.loop-i.invariant.2 ∙ cells_long tags pulses c.loop-i.i ∙ sym (ap length c.requires.cells_value ∙ cells_long tags pulses c.args.from)
-
-pub returns : goal.returns
-returns c =
-    let e : c.loop-i.i ≡ c.args.to = omega arith in
-    rw e at c.loop-i.invariant.2
+pub loop-tag-preserved : goal.loop-tag-preserved
+loop-tag-preserved c =
+    let l = c.loop-tag in
+    let z = turn_at c.args.tags.now c.args.pulses.now l.yielded c.into_iter-tag-iterator.result l.tag-iterator c.next.new.self c.next.result _
+    (cc) (cc) l.yielded_by c.in-Some.is c.next.ensures.steps in
+    rw c.from.ensures (put_next _ _ _ _ _ _ _ _ z l.invariant)

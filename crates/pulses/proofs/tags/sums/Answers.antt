@@ -1,41 +1,28 @@
 -- `pulses::tags::sums` meets its contract: after each turn twenty pulses more are in their cells. Assumes nothing.
 use native.Mathlib.Omega.{arith}
-use mathlib.Core.Path.{◌≡◌, sym, ap, ◌∙◌}
-use lib.ListN.{length}
-use Rattle.pulses.proofs.CellLaws.{cells_none, cells_long, all_said}
+use mathlib.Core.Path.{◌≡◌, ap, ◌∙◌}
+use Prim.Native.Nat.{◌+◌, ◌*◌, ◌/◌}
+use Rattle.pulses.specs.Tags.{cells_after}
+use Rattle.pulses.proofs.CellLaws.{cells_none, put_part, all_said}
 use Rattle.pulses.proofs.tags.sums.Goals as goal
 
-pub loop-i-init : goal.loop-i-init
-loop-i-init c = (omega arith, cells_none _ _)
+pub loop-turn-init : goal.loop-turn-init
+loop-turn-init c = cells_none _ _
 
-pub slice_bounds-put-end : goal.slice_bounds-put-end
-slice_bounds-put-end c =
-    let long : length c.loop-i.cells ≡ 256 = ap length c.loop-i.invariant.1 ∙ cells_long c.args.tags.now c.args.pulses.now c.loop-i.i in
-    sym long
-
-pub put-requires : goal.put-requires
-put-requires c = record {
-  from_le_to = (omega arith, omega arith, omega arith);
-  cells_value = c.loop-i.invariant.1;
-}
-
-pub loop-i-preserved : goal.loop-i-preserved
-loop-i-preserved c = (omega arith, c.put.ensures)
-
-pub slice_bounds-put-end-2 : goal.slice_bounds-put-end-2
-slice_bounds-put-end-2 c =
-    let long : length c.loop-i.cells ≡ 256 = ap length c.loop-i.invariant.1 ∙ cells_long c.args.tags.now c.args.pulses.now c.loop-i.i in
-    sym long
-
-pub put-requires-2 : goal.put-requires-2
-put-requires-2 c = record {
-  from_le_to = (omega arith, omega arith, omega arith);
-  cells_value = c.loop-i.invariant.1;
-}
-
-pub octets-said-requires : goal.octets-said-requires
-octets-said-requires c = ap length c.put-2.ensures ∙ cells_long _ _ _
+pub loop-turn-preserved : goal.loop-turn-preserved
+loop-turn-preserved c =
+    let a = c.args in
+    let k = c.loop-turn.turn in
+    let e : 20 * k + 20 ≡ 20 * (k + 1) = omega arith in
+    c.put.ensures ∙ put_part a.tags.now a.pulses.now _ (20 * k) (20 * k + 20) (omega arith) (omega arith) (omega arith) c.loop-turn.invariant
+    ∙ ap (cells_after a.tags.now a.pulses.now) e
 
 pub returns : goal.returns
 returns c =
-    all_said _ _ _ _ _ _ c.smaller-end.ensures c.put-2.ensures c.octets-said.ensures c.widened.ensures
+    let a = c.args in
+    let k = c.loop-turn.turn in
+    let e : k ≡ c.min-end.result / 20 = omega arith in
+    all_said _ _ _ _ _ _ c.min-end.ensures
+    (c.put-2.ensures ∙ put_part a.tags.now a.pulses.now _ (20 * (c.min-end.result / 20)) c.min-end.result
+    (omega arith) (omega arith) (omega arith) (rw e at c.loop-turn.invariant))
+    c.octets-said.ensures c.widened.ensures

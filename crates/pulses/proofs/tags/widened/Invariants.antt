@@ -1,7 +1,6 @@
 -- `pulses::tags::widened` meets its contract: after each turn one value more is stored. Assumes nothing.
 use mathlib.Core.Path.{◌≡◌}
 use mathlib.Core.Bool.{cond}
-use Prim.Native.Nat.{◌≤◌, ◌-◌}
 use lib.Dec.{ltb}
 use lib.ListN.{get_or, replicate}
 use Rattle.pulses.specs.Row.{first_data}
@@ -9,7 +8,4 @@ use Rattle.pulses.proofs.FillLaws.{filled_to}
 use Rattle.pulses.proofs.tags.widened.Given as goal
 
 abbrev pub invariant-loop-k : goal.invariant-loop-k
-invariant-loop-k l = (3 ≤ l.k) × (l.k ≤ 32) × (l.values ≡ filled_to (λ k. cond (ltb k first_data) 0 (get_or l.said k 0)) (replicate 32 0) l.k)
-
-abbrev pub decreases-loop-k : goal.decreases-loop-k
-decreases-loop-k l = 32 - l.k
+invariant-loop-k l = l.values ≡ filled_to (λ k. cond (ltb k first_data) 0 (get_or l.said k 0)) (replicate 32 0) l.k

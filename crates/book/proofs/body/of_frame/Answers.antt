@@ -1,8 +1,0 @@
--- `book::body::of_frame` meets its contract. Assumes nothing.
-use Rattle.book.proofs.body.of_frame.Goals as goal
-
-pub returns-in-Time : goal.returns-in-Time
-returns-in-Time c = rw c.in-Time.is
-
-pub returns-in-No : goal.returns-in-No
-returns-in-No c = rw c.in-No.is

@@ -1,8 +1,0 @@
--- `clock_string::as_meinberg` meets its contract. Assumes nothing.
-use Rattle.clock_string.proofs.as_meinberg.Goals as goal
-
-pub returns-in-Time : goal.returns-in-Time
-returns-in-Time c = rw c.in-Time.is
-
-pub returns-in-No : goal.returns-in-No
-returns-in-No c = rw c.in-No.is

@@ -1,7 +1,0 @@
--- `irig_table::scanned` meets its contract: the table that it lends is the paper's. Assumes nothing.
-use Rattle.irig_table.specs.Table.{frame_pulses}
-use Rattle.irig_table.proofs.scanned.Goals as goal
-
-pub returns : goal.returns
-unfolding frame_pulses
-returns c = c.scanned.ensures

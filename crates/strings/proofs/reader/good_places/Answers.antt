@@ -1,0 +1,13 @@
+-- `strings::reader::good_places` meets its contract. Assumes nothing.
+use native.Mathlib.Omega.{arith}
+use mathlib.Core.Path.{sym, ap, ◌∙◌}
+use Rattle.wire.specs.Layout.{all_good}
+use Rattle.wire.proofs.LayoutLaws.{all-good}
+use Rattle.strings.proofs.reader.good_places.Goals as goal
+
+pub returns-then-all_allowed : goal.returns-then-all_allowed
+returns-then-all_allowed g c =
+    let format = g.F.ClockString.format in
+    let fits = g.met.F.ClockString.fits in
+    all-good format.layout _ (omega (arith, fits.size_is, fits.layout_is))
+    (sym (ap (λ l. all_good l c.args.s.now) c.columns.ensures) ∙ sym c.all_allowed.ensures ∙ c.if-all_allowed.true)
