@@ -23,6 +23,8 @@ use Rattle.book.proofs.first.Kinds as first-kinds
 use Rattle.book.proofs.first.Reads as first_reads
 use Rattle.book.proofs.stamps.stamping_of.Kinds as stamping-kinds
 use Rattle.book.proofs.stamps.stamping_of.Reads as stamping-reads
+use Rattle.book.proofs.stamps.stamping_at.Kinds as stamping-at-kinds
+use Rattle.book.proofs.stamps.stamping_at.Reads as stamping-at-reads
 use Rattle.book.proofs.body.Kind.body_length.Kinds as body-length-kinds
 use Rattle.book.proofs.body.Kind.body_length.Reads as body-length-reads
 use Rattle.book.proofs.body.Kind.read.Kinds as read-body-kinds
@@ -41,6 +43,9 @@ first_one κs a x y e f p q = cc
 
 pub stamping_of_one : Coincide 0 stamping-kinds.ps stamping-kinds.r stamping-reads.Post
 stamping_of_one κs a x y e f p q = cc
+
+pub stamping_at_one : Coincide 0 stamping-at-kinds.ps stamping-at-kinds.r stamping-at-reads.Post
+stamping_at_one κs a x y e f p q = cc
 
 -- For a function that is proved by hand rattle reads off no `Post`: its `ensures` is a fact of the result alone, in every
 -- model, and any two results of which the fact holds coincide.

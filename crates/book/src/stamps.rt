@@ -1,5 +1,5 @@
 // The stamp of a record, a step above the walk: what the listing says of it.
-ghost use Rattle.std.specs.Prelude.{◌≡◌};
+ghost use Rattle.std.specs.Prelude.{◌≡◌, option_map};
 ghost use Rattle.book.specs.Stamps.{stamp_said, stamping_of};
 
 use super::{Record, Stamping};
@@ -20,4 +20,11 @@ pub fn stamping_of(base: u16, found: Record) -> Stamping
         kind: found.kind,
         stamp: stamp_said(base, found.said),
     }
+}
+
+// The same of what may stand at a place of a book: of nothing it is nothing.
+pub fn stamping_at(base: u16, found: Option<Record>) -> Option<Stamping>
+    ensures { result ≡ option_map (stamping_of base) found }
+{
+    found.map(|record| stamping_of(base, record))
 }

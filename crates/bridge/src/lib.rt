@@ -3,7 +3,7 @@
 // before they come true. An odd quarter hour has no frame.
 #![tactic(auto)]
 
-ghost use Rattle.std.specs.Prelude.{◌≡◌, ◌&&◌, length};
+ghost use Rattle.std.specs.Prelude.{◌≡◌, ◌&&◌, length, Err};
 ghost use Rattle.reading.specs.Universal.{utc_of};
 ghost use Rattle.reading.specs.Leap.{leap_window};
 ghost use Rattle.bridge.specs.Bridge.{quality_by, carried_by, bridge_answer, bridge_filled};
@@ -29,16 +29,30 @@ pub fn bridge(base: u16, s: &[u8], out: &mut [u8]) -> Result<usize, Refusal>
     bridge_with(base, s, Coasting::Worse, out)
 }
 
-// The same with the way named. The room is looked at before the string; an odd quarter is refused by the frame's writer.
+// The same with the way named. The room is looked at before the string.
 pub fn bridge_with(base: u16, s: &[u8], way: Coasting, out: &mut [u8]) -> Result<usize, Refusal>
     ensures value { result ≡ bridge_answer base s.now (length out.old) }
     ensures out_after { out.new ≡ bridge_filled way base s.now out.old }
 {
     if out.len() < Ieee1344::LENGTH {
-        return Err(Fault::Length.into());
+        return refuse(Fault::Length.into(), out);
     }
-    let (r, coasting) = read(base, s)?.timed();
-    Ieee1344::write(base, carried_by(way, coasting, r), out)
+    match read(base, s) {
+        Ok(told) => {
+            let (r, coasting) = told.timed();
+            Ieee1344::write(base, carried_by(way, coasting, r), out)
+        }
+        Err(why) => refuse(why, out),
+    }
+}
+
+// The room's refusal and the string's: each says why, and leaves `out` as it was. No `?`, so that the contract which keeps the buffer
+// is that of both. An odd quarter is refused by the frame's writer.
+fn refuse(refusal: Refusal, out: &mut [u8]) -> Result<usize, Refusal>
+    ensures value { result ≡ Err refusal }
+    ensures out_unchanged { out.new ≡ out.old }
+{
+    Err(refusal)
 }
 
 // UTC is worked out only where a leap second is announced.

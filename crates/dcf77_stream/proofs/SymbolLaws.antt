@@ -2,13 +2,13 @@
 use mathlib.Core.Bool.{Bool, true, false, ◌&&◌, and-true, and-false}
 use mathlib.Core.List.{List, [], ◌∷◌, ◌++◌}
 use mathlib.Core.Path.{◌≡◌, refl, sym, ap, ◌∙◌}
-use Prim.Native.Nat.{ℕ, zero, suc, ◌+◌, ◌-◌, ◌<◌}
+use Prim.Native.Nat.{ℕ, zero, suc, ◌+◌, ◌-◌, ◌<◌, ◌≤◌}
 use native.Mathlib.Numerals.{add-one}
 use native.Mathlib.Omega.{arith}
 use lib.Dec.{eqb, ltb}
 use lib.ListN.{length, get_or, take, drop, length-append, length-drop}
 use lib.Seq.{drop-cons, take_all}
-use borrow.Author.Tests.{eq-eqb, ne_eqb, lt-ltb, ltb-true}
+use borrow.Author.Tests.{eq-eqb, ne_eqb, lt-ltb, le-ltb, ltb-true}
 use Rattle.std.specs.Prelude.{IsTrue, ◌↔◌}
 use Rattle.laws.proofs.Bools.{both}
 use Rattle.dcf77_stream.specs.Said.{marks_then_gap, between_gaps}
@@ -84,3 +84,11 @@ gap_there w k h e = ap marks_then_gap (tail_is w (k + 1) ∙ ap (λ (m : ℕ). d
 
 pub no_gap_there : (w : List ℕ) (k : ℕ) → k < length w → (get_or w k 0 ≡ 2 → ⊥) → false ≡ between_gaps (drop k w)
 no_gap_there w k h d = sym (gap_first w k h ∙ ap (λ (b : Bool). b && marks_then_gap (drop (suc k) w)) (ne_eqb (get_or w k 0) 2 d))
+
+-- what is no mark in the second place leaves no outline that begins in the first
+pub second_unmarked : (w : List ℕ) → 2 < length w → 2 ≤ get_or w 1 0 → between_gaps w ≡ false
+unfolding between_gaps marks_then_gap
+second_unmarked [] l h = refl
+second_unmarked (x ∷ []) l h = absurd (omega arith)
+second_unmarked (x ∷ y ∷ []) l h = absurd (omega arith)
+second_unmarked (x ∷ y ∷ z ∷ w) l h = rw (ne_eqb (length (z ∷ w)) 0 (λ n. omega arith), le-ltb y 2 h) (and-false (eqb x 2))

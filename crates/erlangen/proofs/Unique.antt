@@ -6,6 +6,16 @@ use denote.Triple.Clauses.{AtExit}
 use Rattle.laws.proofs.Coincide.{Coincide}
 use Rattle.erlangen.proofs.read.for_clock_string.Kinds as for-clock-string-kinds
 use Rattle.erlangen.proofs.read.for_clock_string.Reads as for-clock-string-reads
+use Rattle.erlangen.proofs.read.ErlangenClockString.all_allowed.Kinds as all-allowed-kinds
+use Rattle.erlangen.proofs.read.ErlangenClockString.all_allowed.Reads as all-allowed-reads
+use Rattle.erlangen.proofs.read.ErlangenClockString.good_places.Kinds as good-places-kinds
+use Rattle.erlangen.proofs.read.ErlangenClockString.good_places.Reads as good-places-reads
+use Rattle.erlangen.proofs.read.ErlangenClockString.reading.Kinds as reading-kinds
+use Rattle.erlangen.proofs.read.ErlangenClockString.reading.Reads as reading-reads
+use Rattle.erlangen.proofs.read.ErlangenClockString.said_fault.Kinds as said-fault-kinds
+use Rattle.erlangen.proofs.read.ErlangenClockString.said_fault.Reads as said-fault-reads
+use Rattle.erlangen.proofs.read.ErlangenClockString.is_coasting.Kinds as is-coasting-kinds
+use Rattle.erlangen.proofs.read.ErlangenClockString.is_coasting.Reads as is-coasting-reads
 use Rattle.erlangen.proofs.Erlangen.write.Kinds as write-kinds
 use Rattle.erlangen.proofs.Erlangen.write.Reads as write-reads
 use Rattle.erlangen.proofs.offset.Shown.is_bad.Kinds as is-bad-kinds
@@ -23,6 +33,23 @@ for_clock_string_one κs a x y e f p q = cc
 pub write_one : (κs : Lfts 2) (a : Dens κs write-kinds.ps) (x y : (res_t write-kinds.r κs).Denot) (e f : AtExit (ended_of 2 write-kinds.ps write-kinds.r) κs)
     → write-reads.Post κs a x e → write-reads.Post κs a y f → (x ≡ y) × (e.1.1.1.1.0.now ≡ f.1.1.1.1.0.now)
 write_one κs a x y e f p q = (cc, cc)
+
+-- ---- what the trait `ClockString` lets any crate call
+
+pub all_allowed_one : Coincide 1 all-allowed-kinds.ps all-allowed-kinds.r all-allowed-reads.Post
+all_allowed_one κs a x y e f p q = cc
+
+pub good_places_one : Coincide 1 good-places-kinds.ps good-places-kinds.r good-places-reads.Post
+good_places_one κs a x y e f p q = cc
+
+pub reading_one : Coincide 1 reading-kinds.ps reading-kinds.r reading-reads.Post
+reading_one κs a x y e f p q = cc
+
+pub said_fault_one : Coincide 1 said-fault-kinds.ps said-fault-kinds.r said-fault-reads.Post
+said_fault_one κs a x y e f p q = cc
+
+pub is_coasting_one : Coincide 1 is-coasting-kinds.ps is-coasting-kinds.r is-coasting-reads.Post
+is_coasting_one κs a x y e f p q = cc
 
 -- ---- what the crate's own files call
 

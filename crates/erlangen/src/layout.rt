@@ -1,4 +1,8 @@
 // What may stand at each place of a string, as columns of `wire::layout`, and where its fields stand.
+ghost use Rattle.std.specs.Prelude.{◌≡◌};
+ghost use Rattle.wire.specs.Columns.{entries};
+ghost use Rattle.erlangen.specs.Layout.{layout};
+
 use strings::Places;
 use wire::layout::Columns;
 
@@ -52,9 +56,16 @@ pub(crate) const PLACES: Places = Places {
 const BESIDE: &[u8] = b"\x0200.00.00; 0; 00:00:00; +00:00;        ;                           \x03";
 
 // A range is wider than one byte at a digit and in the position.
-pub(crate) const COLUMNS: Columns<'static> = Columns {
+const COLUMNS: Columns<'static> = Columns {
     low: b"\x0200.00.00; 0; 00:00:00; -00:00; #*S!A L;                           \x03",
     high: b"\x0299.99.99; 9; 99:99:99; -99:99; #*S!A L; ~~~~~~~~~~~~~~~~~~~~~~~~~~\x03",
     other: BESIDE,
     third: BESIDE,
 };
+
+// By entries, one a place, they are the layout of specs/Layout.antt.
+pub(crate) fn columns() -> Columns<'static>
+    ensures { entries result ≡ layout }
+{
+    COLUMNS
+}

@@ -14,7 +14,7 @@ use strings::letters::quality_of;
 use strings::reader::ClockString;
 use strings::{fault_of, reader};
 use wire::digits::{one_digit, two_digits};
-use wire::layout::{Columns, byte_at};
+use wire::layout::byte_at;
 
 #[tactic(auto, unfolding(crate::specs::Meaning::shows))]
 fn shows(s: &[u8], place: usize, byte: u8) -> bool
@@ -60,8 +60,12 @@ impl ClockString for Erlangen {
 
     const LAST: usize = Erlangen::LAST;
 
-    fn columns() -> Columns<'static> {
-        layout::COLUMNS
+    fn all_allowed(s: &[u8]) -> bool {
+        layout::columns().all_allowed(s)
+    }
+
+    fn good_places(s: &[u8]) -> usize {
+        layout::columns().good_places(s)
     }
 
     #[tactic(auto, unfolding(crate::specs::Meaning::reading_of))]

@@ -56,8 +56,9 @@ impl Format<100> for Frames {
         None
     }
 
-    // Nothing, unless both ends of the window are marks.
+    // Nothing, unless both ends of the window are marks. A number past the ring stands for its last place.
     fn say(base: u16, ring: &[u8; 100], newest: usize) -> Said {
+        let newest = newest.min(99);
         if ring[newest] != 2 {
             return None;
         }

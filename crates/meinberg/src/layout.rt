@@ -1,4 +1,8 @@
 // What may stand at each place of a Meinberg string, as a layout of the crate `wire`, and where its fields stand.
+ghost use Rattle.std.specs.Prelude.{◌≡◌};
+ghost use Rattle.wire.specs.Columns.{entries};
+ghost use Rattle.meinberg.specs.Layout.{layout};
+
 use strings::Places;
 use wire::layout::Columns;
 
@@ -38,9 +42,16 @@ pub(crate) const PLACES: Places = Places {
 
 // What may stand at each place. A range is wider than one byte at a digit; the bytes beside it differ from it at the marks
 // only: a space for none, an `S` and an `A`.
-pub(crate) const COLUMNS: Columns<'static> = Columns {
+const COLUMNS: Columns<'static> = Columns {
     low: b"\x02D:00.00.00;T:0;U:00.00.00;#*U!\x03",
     high: b"\x02D:99.99.99;T:9;U:99.99.99;#*U!\x03",
     other: b"\x02D:00.00.00;T:0;U:00.00.00;   A\x03",
     third: b"\x02D:00.00.00;T:0;U:00.00.00;  S \x03",
 };
+
+// By entries, one a place, they are the layout of specs/Layout.antt.
+pub(crate) fn columns() -> Columns<'static>
+    ensures { entries result ≡ layout }
+{
+    COLUMNS
+}

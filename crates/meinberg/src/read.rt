@@ -13,7 +13,7 @@ use strings::letters::quality_of;
 use strings::reader::ClockString;
 use strings::{fault_of, reader};
 use wire::digits::{one_digit, two_digits};
-use wire::layout::{Columns, byte_at};
+use wire::layout::byte_at;
 
 impl ClockString for Meinberg {
     ghost format = { format };
@@ -28,8 +28,12 @@ impl ClockString for Meinberg {
 
     const LAST: usize = Meinberg::LAST;
 
-    fn columns() -> Columns<'static> {
-        layout::COLUMNS
+    fn all_allowed(s: &[u8]) -> bool {
+        layout::columns().all_allowed(s)
+    }
+
+    fn good_places(s: &[u8]) -> usize {
+        layout::columns().good_places(s)
     }
 
     #[tactic(auto, unfolding(crate::specs::Meaning::quality_of, crate::specs::Meaning::meaning))]

@@ -1,13 +1,14 @@
 -- The two senses of offset are each other's negative, and which offsets are good.
-use mathlib.Core.Bool.{Bool, true, false, cond}
+use mathlib.Core.Bool.{Bool, true, false, cond, ◌&&◌}
 use mathlib.Core.Path.{◌≡◌, refl, ap, ◌∙◌}
 use Prim.Native.Nat.{ℕ, zero, suc, ◌+◌, ◌/◌, ◌%◌, ◌≤◌, ◌<◌}
 use native.Mathlib.Omega.{arith}
-use lib.Dec.{leb, ltb}
+use lib.Dec.{leb, ltb, eqb, eqb-zero-suc, eqb-suc-zero, eqb-suc-suc}
 use lib.IntN.{ℤ, pos, negsuc, neg_ℤ-neg_ℤ}
 use lib.Signed.{mag}
 use borrow.Author.Tests.{leb-true, ltb-false}
 use Rattle.laws.proofs.Bools.{both}
+use Rattle.laws.specs.Tests.{same}
 use Rattle.reading.specs.Offset.{unit, westmost, eastmost, west, east, offset_good, opposite, local_of}
 
 -- what is added to local time is the opposite of local minus UTC, and back
@@ -45,3 +46,16 @@ offset_range z e =
 -- whole hours to either side of UTC
 abbrev pub WholeHours : ℤ → Type 0
 WholeHours z = (west z + east z) % (60 / unit) ≡ 0
+
+-- ---- an offset lies west or east of UTC, so that both amounts tell it
+
+and_true : (b : Bool) → (b && true) ≡ b
+and_true true = refl
+and_true false = refl
+
+pub by_sides : (x y : ℤ) → (eqb (west x) (west y) && eqb (east x) (east y)) ≡ same x y
+unfolding west east
+by_sides (pos m) (pos n) = refl
+by_sides (pos m) (negsuc n) = rw (eqb-zero-suc n)
+by_sides (negsuc m) (pos n) = rw (eqb-suc-zero m)
+by_sides (negsuc m) (negsuc n) = rw (eqb-suc-suc m n) (and_true (eqb m n))

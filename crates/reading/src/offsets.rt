@@ -17,7 +17,9 @@ const FURTHEST_WEST: i8 = -48;
 
 const FURTHEST_EAST: i8 = 56;
 
-// Whether two offsets are one. It is the derived equality, and stays a function for the wrong program `west_not_compared`.
+// Whether two offsets are one. It is the derived equality, and stays a function for the wrong program `west_not_compared`; by the law
+// named here two amounts that both agree would do as well, so that the wrong one is refused for the amount that it leaves out.
+#[tactic(auto, using(crate::proofs::OffsetLaws::by_sides))]
 pub fn same_offset(a: LocalMinusUtc, b: LocalMinusUtc) -> bool
     ensures { result ≡ same a.0 b.0 }
 {

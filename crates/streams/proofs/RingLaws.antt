@@ -2,13 +2,14 @@
 use mathlib.Core.Bool.{Bool, true, false, cond}
 use mathlib.Core.List.{List, [], ◌∷◌, ◌++◌, append_assoc, append-nil}
 use mathlib.Core.Path.{◌≡◌, refl, sym, ap, ◌∙◌}
-use Prim.Native.Nat.{ℕ, suc, ◌+◌, ◌-◌, ◌≤◌, ◌<◌}
+use Prim.Native.Nat.{ℕ, suc, ◌+◌, ◌-◌, ◌≤◌, ◌<◌, min}
 use native.Mathlib.Numerals.{add-one}
 use native.Mathlib.Omega.{arith}
 use lib.Dec.{ltb}
 use lib.ListN.{length, take, drop, set, get_or, length-append, length-take, length-drop, length-set, drop_of_length-le}
 use lib.Seq.{take_all, take-suc, take-suc-set, drop-cons, drop-set-lt, length-take-le, get_or_at}
 use borrow.Author.Tests.{ltb-true, ltb-false, lt-ltb, le-ltb}
+use Rattle.std.proofs.Math.Nat.{min-eq_left, min-eq_right}
 use Rattle.wire.specs.Put.{stored}
 use Rattle.wire.proofs.StoreLaws.{stored_first, stored_behind}
 use Rattle.streams.specs.Stream.{push, place_of, unrolled}
@@ -53,6 +54,19 @@ unrolled_place n w k l h = go (ltb k n) refl
     go : (b : Bool) → ltb k n ≡ b → unrolled w (cond b k 0) ≡ unrolled w k
     go true e = refl
     go false e = unrolled_first w ∙ sym (unrolled_past w k (omega (arith, ltb-false k n e)))
+
+-- a number past the ring stands for its last place
+pub unrolled_min : (n : ℕ) (w : List ℕ) (k : ℕ) → length w ≡ n → 0 < n → unrolled w (min k (n - 1) + 1) ≡ unrolled w (k + 1)
+unrolled_min n w k l some = go (ltb k n) refl
+  where
+    go : (b : Bool) → ltb k n ≡ b → unrolled w (min k (n - 1) + 1) ≡ unrolled w (k + 1)
+    go true e =
+        let h : k ≤ n - 1 = omega (arith, ltb-true k n e) in
+        ap (λ (m : ℕ). unrolled w (m + 1)) (min-eq_left h)
+    go false e =
+        let h : n ≤ k = ltb-false k n e in
+        let m : min k (n - 1) ≡ n - 1 = min-eq_right (omega arith) in
+        ap (λ (m : ℕ). unrolled w (m + 1)) m ∙ unrolled_past w (n - 1 + 1) (omega arith) ∙ sym (unrolled_past w (k + 1) (omega arith))
 
 module _ (w : List ℕ) (k : ℕ) (h : k < length w) where
   -- the newest stands before the oldest

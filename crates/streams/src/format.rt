@@ -18,9 +18,9 @@ pub trait Format<const N: usize> {
     fn nothing() -> Self::Said
         ensures { result ≡ silence };
 
-    // What is said of a ring whose newest pulse stands at a place. (One struct of both was tried: six instructions a pulse more.)
+    // What is said of a ring whose newest pulse stands at a place; a number past the ring stands for its last. (One struct of both was
+    // tried: six instructions a pulse more.)
     fn say(base: u16, ring: &[u8; N], newest: usize) -> Self::Said
-        requires { newest < N }
         ensures { result ≡ say_of base (unrolled ring.now (newest + 1)) };
 
     // Some pulses are kept, and few enough for a reader to have room in memory.

@@ -1,12 +1,10 @@
 // The reader of a clock string, once for every format of one.
 ghost use Rattle.std.specs.Prelude.{◌≡◌, ℕ};
-ghost use Rattle.wire.specs.Layout.{good_places};
-ghost use Rattle.wire.specs.Columns.{entries};
+ghost use Rattle.wire.specs.Layout.{all_good, good_places};
 ghost use Rattle.strings.specs.Format.{Format, Fits, said_fault, read_as};
 
 use reading::years::is_base;
 use reading::{Fault, Reading, Refusal};
-use wire::layout::Columns;
 
 // A format: what may stand at each place of its strings, and what they say.
 pub trait ClockString {
@@ -21,9 +19,13 @@ pub trait ClockString {
     // The largest place.
     const LAST: usize;
 
-    // What may stand at each place.
-    fn columns() -> Columns<'static>
-        ensures { entries result ≡ format.layout };
+    // Whether every byte may stand where it does, up to the end of the layout or of the bytes.
+    fn all_allowed(s: &[u8]) -> bool
+        ensures { result ≡ all_good format.layout s.now };
+
+    // How many bytes from the start may stand where they do. It leaves at the first that may not, and is for bytes that have one.
+    fn good_places(s: &[u8]) -> usize
+        ensures { result ≡ good_places format.layout s.now };
 
     // Any bytes have a meaning; it is told only of a string without a fault.
     fn reading(base: u16, s: &[u8]) -> Reading
@@ -40,13 +42,13 @@ pub trait ClockString {
 }
 
 // A bad byte is looked for only where there is one, so that the columns are laid out for that search only then.
-fn good_places<F: ClockString>(s: &[u8]) -> usize
+fn places<F: ClockString>(s: &[u8]) -> usize
     ensures { result ≡ good_places F.format.layout s.now }
 {
-    if s.len() <= F::LENGTH && F::columns().all_allowed(s) {
+    if s.len() <= F::LENGTH && F::all_allowed(s) {
         s.len()
     } else {
-        F::columns().good_places(s)
+        F::good_places(s)
     }
 }
 
@@ -61,7 +63,7 @@ pub fn for_clock_string<F: ClockString>(base: u16, s: &[u8]) -> Result<(Reading,
     if !is_base(base) {
         return Err(Fault::OtherBase.into());
     }
-    let good = good_places::<F>(s);
+    let good = places::<F>(s);
     if good <= F::LAST {
         return Err(Fault::Byte(good).into());
     }

@@ -2,6 +2,9 @@
 // second/README.md says what a case is; what this prints is compared with what the independent second program answers.
 #![tactic(auto)]
 
+ghost use Rattle.std.specs.Prelude.{◌≡◌, length};
+ghost use Rattle.listing.specs.Listing.{room_for_any};
+
 use listing::ROOM;
 use op::Op;
 
@@ -47,10 +50,17 @@ fn one_case(space: &mut [u8; 65536], page: &mut [u8]) -> bool {
     io::write_all(1, b"\n")
 }
 
+// A page has room for every listing.
+fn page_for_listing() -> [u8; ROOM]
+    ensures { room_for_any ≡ length result }
+{
+    [0; ROOM]
+}
+
 // A proved loop has to end, so it counts to a number that no run uses up.
 fn main() {
     let mut space = io::large_buffer();
-    let mut page = [0u8; ROOM];
+    let mut page = page_for_listing();
     for _ in 0..u64::MAX {
         if !one_case(&mut space, &mut page) {
             break;

@@ -5,7 +5,6 @@ use Rattle.std.specs.Prelude.{Err, Ok}
 use mathlib.Core.Bool.{Bool, true, false}
 use mathlib.Core.List.{List}
 use mathlib.Core.Path.{◌≡◌, refl, sym, ap, ◌∙◌}
-use Rattle.std.proofs.Common.{rules}
 use Prim.Native.Nat.{ℕ, ◌≤◌, ◌<◌}
 use native.Mathlib.Omega.{arith}
 use lib.ListN.{length}
@@ -15,7 +14,7 @@ use Rattle.reading.specs.declared.Fault.TheVariants.{Length}
 use Rattle.reading.specs.Faults.{number}
 use Rattle.reading.specs.Writing.{written_of, filled, Written}
 use Rattle.clock_string.specs.Reader.{read_string, whichever}
-use Rattle.clock_string.proofs.ReadLaws.{Tells, refused_is}
+use Rattle.clock_string.proofs.ReadLaws.{Tells}
 use Rattle.irig.specs.Offset.{odd_quarter}
 use Rattle.irig.specs.Faults.{frame_length}
 use Rattle.irig.specs.Writing.{frame_of, write_fault}
@@ -61,21 +60,22 @@ module _ (base : ℕ) (s : List ℕ) (way : Coasting) (out : List ℕ) where
 pub returns-then-out-lt-LENGTH : goal.returns-then-out-lt-LENGTH
 returns-then-out-lt-LENGTH c =
     let a = c.args in
-    let both = too_short _ a.s.now a.way a.out.now c.into.result _ _ (omega arith) c.into.ensures refl refl in
+    let no = c.refuse.ensures in
+    let both = too_short _ a.s.now a.way a.out.now c.into.result _ _ (omega arith) c.into.ensures no.value no.out_unchanged in
     record { value = both.0; out_after = both.1 }
 
-pub returns-in_err-read : goal.returns-in_err-read
-returns-in_err-read c =
+pub returns-in-Err : goal.returns-in-Err
+returns-in-Err c =
     let a = c.args in
-    let refusal = c.in_err-read.field-0.0 in
-    let both = string-refusal-unchanged _ a.s.now a.way a.out.now c.if-out-lt-LENGTH.false refusal (sym c.read.ensures ∙ c.in_err-read.was) in
-    record { value = rw both.0 (search rules); out_after = sym both.1 }
+    let no = c.refuse-in-Err.ensures in
+    let both = string-refusal-unchanged _ a.s.now a.way a.out.now c.if-out-lt-LENGTH.false c.in-Err.why (sym c.read.ensures ∙ c.in-Err.is) in
+    record { value = no.value ∙ sym both.0; out_after = no.out_unchanged ∙ sym both.1 }
 
-pub returns : goal.returns
-returns c =
+pub returns-in-Ok : goal.returns-in-Ok
+returns-in-Ok c =
     let a = c.args in
     let timed = c.timed-coasting.result in
-    let tells = ap whichever (sym c.read.ensures ∙ c.in_ok-read.was) ∙ ap Ok (sym c.timed-coasting.ensures) in
+    let tells = ap whichever (sym c.read.ensures ∙ c.in-Ok.is) ∙ ap Ok (sym c.timed-coasting.ensures) in
     let both = wrote _ a.s.now a.way a.out.now c.if-out-lt-LENGTH.false (whichever (read_string a.base a.s.now)) refl
     timed.0 c.carried_by.result timed.1 c.write.result c.write.new.out tells c.carried_by.ensures
     c.write.ensures.value c.write.ensures.out_after in

@@ -1,5 +1,4 @@
 -- `dcf77_stream::marks_then_gap` meets its contract.
-use Rattle.std.specs.Prelude.{Some}
 use Rattle.std.proofs.Common.{ℕ, ◌<◌, ◌↔◌, length, get_or, IsTrue, sym, ap, ◌∙◌, rules}
 use mathlib.Core.Bool.{Bool, ◌&&◌, and-true, and-false}
 use borrow.Author.Tests.{eq-eqb, ne_eqb}

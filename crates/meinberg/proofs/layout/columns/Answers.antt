@@ -2,7 +2,7 @@
 use mathlib.Core.Path.{refl}
 use Rattle.wire.specs.Layout.{packed, exactly, from, either, one_of, columns}
 use Rattle.meinberg.specs.Layout.{layout}
-use Rattle.meinberg.proofs.read.MeinbergClockString.columns.Goals as goal
+use Rattle.meinberg.proofs.layout.columns.Goals as goal
 
 pub returns : goal.returns
 unfolding layout packed exactly from either one_of columns

@@ -2,7 +2,7 @@
 use mathlib.Core.Path.{refl}
 use Rattle.wire.specs.Layout.{packed, exactly, from, either, columns}
 use Rattle.erlangen.specs.Layout.{layout}
-use Rattle.erlangen.proofs.read.ErlangenClockString.columns.Goals as goal
+use Rattle.erlangen.proofs.layout.columns.Goals as goal
 
 pub returns : goal.returns
 unfolding layout packed exactly from either columns
